@@ -37,6 +37,8 @@ def keystrokes(path, facets, count=500):
 
 
 def main():
+    if len(sys.argv) not in (3, 4):
+        sys.exit("usage: bench/ask.py PROGRAM COLLECTION [FACETS]")
     program, collection = sys.argv[1:3]
     facets = sys.argv[3] if len(sys.argv) > 3 else ""
     lines = keystrokes(collection, facets)

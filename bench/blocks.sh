@@ -7,6 +7,7 @@
 # linear generator, and must print one number. A pass is the processor time of N + 1 passes without that of one, by N;
 # of nine such measurements the middle one is shown. The C++ is run in three forms: row by row with the five rules, row
 # by row with none, and column by column with none.
+case "$#${1:-}" in 0 | 1[!-]*) ;; *) echo "usage: bench/blocks.sh [FOLDER]" >&2; exit 2 ;; esac
 . "$(dirname "$0")/beside.sh" blocks "${1:-}"
 
 cat > blocks.cpp <<'CPP'

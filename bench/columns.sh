@@ -7,6 +7,7 @@
 # FOLDER (/tmp/timed_columns) takes the C++ program. It needs python3 and g++. Both programs make their posts from one
 # linear generator, and must print one number. A pass is the processor time of N + 1 passes without that of one, by N;
 # of five such measurements the middle one is shown. Where one list is much shorter, C++ too steps by doubling.
+case "$#${1:-}" in 0 | 1[!-]*) ;; *) echo "usage: bench/columns.sh [FOLDER]" >&2; exit 2 ;; esac
 . "$(dirname "$0")/beside.sh" columns "${1:-}"
 
 cat > columns.cpp <<'CPP'

@@ -298,8 +298,8 @@ def closing(program, index):
 
 
 def main():
-    if len(sys.argv) < 2:
-        sys.exit(__doc__)
+    if len(sys.argv) < 2 or sys.argv[1].startswith("-"):
+        sys.exit("usage: bench/connections.py PROGRAM [ROW..]")
     with tempfile.TemporaryDirectory() as folder:
         index = f"{folder}/papers.index"
         subprocess.run([sys.argv[1], "build", str(ROOT / "examples/papers.tsv"), index], check=True)

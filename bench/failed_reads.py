@@ -92,8 +92,8 @@ def served(program, index, environment, between=None):
 
 
 def main():
-    if len(sys.argv) not in (2, 3):
-        sys.exit(__doc__)
+    if len(sys.argv) not in (2, 3) or not all(word.isdigit() for word in sys.argv[2:]):
+        sys.exit("usage: bench/failed_reads.py PROGRAM [READS]")
     program = pathlib.Path(sys.argv[1]).resolve()
     reads = int(sys.argv[2]) if len(sys.argv) == 3 else 200
     with tempfile.TemporaryDirectory() as name:

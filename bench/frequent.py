@@ -14,8 +14,8 @@ import sys
 
 
 def main():
-    if len(sys.argv) < 2:
-        sys.exit(__doc__)
+    if len(sys.argv) not in (2, 3, 4) or not all(word.isdigit() for word in sys.argv[3:]):
+        sys.exit("usage: bench/frequent.py COLLECTION [FACETS [WORDS]] > SCRIPT")
     facets = sys.argv[2] if len(sys.argv) > 2 else ""
     count = int(sys.argv[3]) if len(sys.argv) > 3 else 20
     seen = collections.Counter()

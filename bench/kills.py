@@ -124,8 +124,8 @@ def synced(program, folder, place, failing):
 
 
 def main():
-    if len(sys.argv) not in (2, 3, 4):
-        sys.exit(__doc__)
+    if len(sys.argv) not in (2, 3, 4) or not all(word.isdigit() for word in sys.argv[2:]):
+        sys.exit("usage: bench/kills.py PROGRAM [KILLS [PAIRS]]")
     program = pathlib.Path(sys.argv[1]).resolve()
     kills, count = [int(word) for word in sys.argv[2:] + ["500", "50"][len(sys.argv) - 2:]]
     with tempfile.TemporaryDirectory() as name:

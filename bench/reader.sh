@@ -9,6 +9,7 @@
 # /usr/bin/time. A pass is the processor time of three passes without that of one, halved; memory is the peak of one.
 # `ask` is the whole process of `complete ask` over an empty script: it ends as soon as it is ready.
 set -eu
+case "$#${1:-}" in [12][!-]*) ;; *) echo "usage: bench/reader.sh COLLECTION [FOLDER]" >&2; exit 2 ;; esac
 here=$(cd "$(dirname "$0")/.." && pwd)
 collection=$(readlink -f "$1")
 dir=${2:-/tmp/timed_reader}

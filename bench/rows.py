@@ -23,6 +23,8 @@ def spelled():
 
 
 def main():
+    if len(sys.argv) > 1:
+        sys.exit("usage: bench/rows.py > rows.tsv")
     dice = random.Random(24)
     words = list(dict.fromkeys(itertools.islice(spelled(), 2 * WORDS)))[:WORDS]
     dice.shuffle(words)

@@ -2,12 +2,13 @@
 # Times reading a collection whose words were all chosen to share one slot, while a vocabulary is gathered, beside one
 # whose words were not. Run it by hand after `rt run` in crates/timed:
 #
-#     bench/slots.sh [FOLDER] [PROGRAM]
+#     bench/slots.sh [FOLDER [PROGRAM]]
 #
 # FOLDER (/tmp/timed_slots) takes both collections: each has the most documents and bytes that are accepted, 2^20 lines
 # of 2^8 bytes with 15 words of 16 letters, drawn from 591,029. PROGRAM is another build of `timed`, to be timed beside.
 # It needs g++ and /usr/bin/time. Times are processor seconds of a whole process that reads the collection once.
 set -eu
+case "$#${1:-}" in 0 | [12][!-]*) ;; *) echo "usage: bench/slots.sh [FOLDER [PROGRAM]]" >&2; exit 2 ;; esac
 here=$(cd "$(dirname "$0")/.." && pwd)
 dir=${1:-/tmp/timed_slots}
 other=${2:-}

@@ -1,7 +1,7 @@
 #!/usr/bin/env python3
 """Times `trial 1000` beside `trial 10`, for one build of the program or several in turn.
 
-    trials.py ROUNDS PROGRAM ...
+    bench/trials.py ROUNDS PROGRAM ...
 
 A round is one `trial 1000` and eight `trial 10` of each program. Printed are the least, the lower quartile and the middle of
 the wall times in ms, and the one by the other of each; then the middle of the rounds' own ratios, each `trial 1000` by the
@@ -34,6 +34,8 @@ def parts(values):
 
 
 def main():
+    if len(sys.argv) < 3 or not sys.argv[1].isdigit():
+        sys.exit("usage: bench/trials.py ROUNDS PROGRAM ...")
     rounds, programs = int(sys.argv[1]), sys.argv[2:]
     short = {program: [] for program in programs}
     long = {program: [] for program in programs}

@@ -7,6 +7,7 @@
 # FOLDER (/tmp/timed_words) takes the inputs and the programs. It needs python3, g++, libicu-dev and /usr/bin/time.
 # Each program is run for 1 and for 6 passes over the file; a pass is a fifth of the difference, in processor time.
 set -eu
+case "$#${1:-}" in 0 | 1[!-]*) ;; *) echo "usage: bench/words.sh [FOLDER]" >&2; exit 2 ;; esac
 here=$(cd "$(dirname "$0")/.." && pwd)
 dir=${1:-/tmp/timed_words}
 mkdir -p "$dir"

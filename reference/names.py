@@ -1,8 +1,11 @@
 #!/usr/bin/env python3
-"""Prints each name that stands in two crates, or twice in one: definitions of specs/, public types of src/, and modules of lemmas.
+"""Prints each name that means two things: definitions of specs/, types and functions of src/, and modules of definitions and lemmas.
 
-Run at the top of the repository. A reader who meets a name should find one thing under it. The names in EXCUSED may stand twice,
-each for the reason beside it. The status is 1 where anything was printed.
+Run at the top of the repository. A reader who meets a name should find one thing under it, in whichever crate. Types and functions
+are those that stand at the left edge of a file as `pub` or `pub(crate)`; a method is known by its type. A name that is a definition and
+a type or function too is one thing where the source file takes that definition in by `ghost use`, for its contract speaks of it then,
+or where a file of definitions takes in both, for it views the one as the other. Crates of tests and times aren't read. The names in
+EXCUSED may stand twice, each for the reason beside it. The status is 1 where anything was printed.
 """
 import pathlib
 import re
@@ -15,9 +18,12 @@ EXCUSED = {
     "CountsRows": "of a run of words in cs_build and of the marks of words in cs_tables: neither crate nor one above names both",
 }
 
+OF_TESTS = ("cs_tests", "cs_unit_tests", "timed")
 DEFINITION = re.compile(r"^\s*(?:abbrev pub|unfoldable pub|pub record|pub data|pub)\s+([^\s:{(]+)")
 OPEN_RECORD = re.compile(r"^(?:abbrev |unfoldable )?(?:pub )?(?:record|data)\b")
-TYPE = re.compile(r"^pub (?:struct|enum|trait|type|union)\s+(\w+)")
+ITEM = re.compile(r"^pub(?:\(crate\))? (?:(?P<type>struct|enum|trait|type|union)|(?:const )?fn) (?P<name>\w+)")
+TAKES_IN = re.compile(r"use Rattle\.(?P<module>[\w.]+?)\.\{(?P<names>[^}]*)\}")
+DECLARED = ".specs.declared."    # the modules in which a crate's types are known to definitions
 
 
 def definitions(path):
@@ -35,12 +41,24 @@ def definitions(path):
             yield found[1], number
 
 
-def types(path):
-    """The public types of a source file, with their lines."""
+def items(path):
+    """The types and functions of a source file, as kind, name and line."""
     for number, line in enumerate(path.read_text(encoding="utf-8").splitlines(), 1):
-        found = TYPE.match(line)
-        if found:
-            yield found[1], number
+        if found := ITEM.match(line):
+            yield "type" if found["type"] else "function", found["name"], number
+
+
+def taken_in(path):
+    """The definitions that a file takes in, as the file in which each stands and its name, and the types, as crate and name."""
+    for found in TAKES_IN.finditer(path.read_text(encoding="utf-8")):
+        crate, declared, _ = found["module"].partition(DECLARED)
+        file = crate if declared else "crates/" + found["module"].replace(".", "/") + ".antt"
+        yield from ((file, name.split(" as ")[0].strip()) for name in found["names"].split(","))
+
+
+def sources(crate):
+    """The source files of a crate that are no tests."""
+    return [path for path in sorted((crate / "src").rglob("*.rt")) if crate.name not in OF_TESTS and not path.name.endswith("tests.rt")]
 
 
 def modules(crate):
@@ -50,35 +68,54 @@ def modules(crate):
 
 
 def places(crates):
-    """For each kind of name, where each name stands."""
-    kinds = {"definition": {}, "type": {}, "module": {}}
+    """For each kind of name, where each name stands, as file and line; and what each file takes in, itself included."""
+    kinds, uses = {"definition": {}, "type": {}, "function": {}, "module": {}}, {}
 
-    def note(kind, name, place):
-        kinds[kind].setdefault(name, []).append(place)
+    def note(kind, name, path, line):
+        kinds[kind].setdefault(name, []).append((str(path), line))
 
     for crate in crates:
         for path in sorted((crate / "specs").rglob("*.antt")):
+            uses[str(path)] = {*taken_in(path), *((str(path), name) for name, _ in definitions(path))}
             for name, line in definitions(path):
-                note("definition", name, f"{path}:{line}")
-        for path in sorted((crate / "src").rglob("*.rt")):
-            for name, line in types(path):
-                note("type", name, f"{path}:{line}")
+                note("definition", name, path, line)
+        for path in sources(crate):
+            uses[str(path)] = set(taken_in(path))
+            for kind, name, line in items(path):
+                note(kind, name, path, line)
         for name, path in modules(crate):
-            note("module", name, str(path))
-    return kinds
+            note("module", name, path, 1)
+    return kinds, uses
+
+
+def doubles(kinds, uses):
+    """Each name that means two things, as its kind, name and places."""
+    for kind, names in kinds.items():
+        for name, stands in sorted(names.items()):
+            if len(stands) > 1:
+                yield kind, name, stands
+    for kind in ("type", "function"):
+        for name, stands in sorted(kinds[kind].items()):
+            for file, line in stands:
+                defined = kinds["definition"].get(name, [])
+                if defined and not any(is_one(name, file, other, uses) for other, _ in defined):
+                    yield f"{kind} and definition", name, [(file, line), *defined]
+
+
+def is_one(name, source, defined, uses):
+    """Whether what a source file and a file of definitions have under one name is one thing."""
+    crate = pathlib.Path(source).parts[1]
+    return (defined, name) in uses[source] or any({(defined, name), (crate, name)} <= taken for taken in uses.values())
 
 
 def main():
     crates = sorted(path for path in pathlib.Path("crates").iterdir() if (path / "src").is_dir())
     if not crates:
         sys.exit("no crates: run this at the top of the repository")
-    twice = 0
-    for kind, names in places(crates).items():
-        for name, stands in sorted(names.items()):
-            if len(stands) > 1 and name not in EXCUSED:
-                twice += 1
-                print(f"{kind} {name}: {', '.join(stands)}")
-    return 1 if twice else 0
+    found = [double for double in doubles(*places(crates)) if double[1] not in EXCUSED]
+    for kind, name, stands in found:
+        print(f"{kind} {name}: {', '.join(f'{file}:{line}' for file, line in stands)}")
+    return 1 if found else 0
 
 
 if __name__ == "__main__":

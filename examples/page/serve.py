@@ -1,11 +1,13 @@
 #!/usr/bin/env python3
-"""Serves the page over an index of `examples/papers.tsv`, behind nginx, and says its address.
+"""Serves the page over an index of `examples/papers.tsv`, and says its address.
 
     serve.py [PROGRAM]
 
-PROGRAM is `complete` at the top of the repository, or another one with its commands, as `reference/complete.py`. It needs
-nginx and Python 3.9. Both servers listen on free ports of 127.0.0.1, and end with the script.
+PROGRAM is `complete` at the top of the repository, or another one with its commands, as `reference/complete.py`. In front of
+it is nginx, or `front.py` where there is none; and before the reference, which serves one connection after the other, so that
+one that nginx keeps would hold up the next. Both servers listen on free ports of 127.0.0.1, and end with the script.
 """
+import os
 import pathlib
 import shutil
 import signal
@@ -16,7 +18,7 @@ import tempfile
 import time
 
 PAGE = pathlib.Path(__file__).resolve().parent
-ROOT = PAGE.parent.parent
+EXAMPLES = PAGE.parent
 CONNECTIONS = 1_000_000    # the most that `serve` takes; it ends after them
 SECONDS = 10               # within which a server must listen
 
@@ -46,9 +48,11 @@ def replaced(text, old, new):
     return text.replace(old, new)
 
 
-def lay_out(folder, front, back):
-    """Puts the page and nginx's configuration, with these ports, into the folder."""
+def lay_out(folder, program, front, back):
+    """Puts a build, the page, and nginx's configuration with these ports, into the folder."""
     folder.chmod(0o755)    # nginx's worker may be another user
+    subprocess.run([EXAMPLES / "rebuild.sh", folder, EXAMPLES / "collect.py", program], check=True)
+    os.rename(folder / "next", folder / "current")
     (folder / "page").mkdir()
     shutil.copy(PAGE / "index.html", folder / "page")
     text = (PAGE / "nginx.conf").read_text()
@@ -57,19 +61,24 @@ def lay_out(folder, front, back):
     (folder / "nginx.conf").write_text(text)
 
 
+def front_of(folder, program, front, back):
+    """The words that start the server of the page."""
+    if shutil.which("nginx") and not program.endswith(".py"):
+        return ["nginx", "-p", folder, "-c", folder / "nginx.conf"]
+    return [sys.executable, PAGE / "front.py", folder, str(front), str(back)]
+
+
 def main():
     signal.signal(signal.SIGTERM, lambda number, frame: sys.exit())
-    program = sys.argv[1] if len(sys.argv) > 1 else str(ROOT / "complete")
+    program = sys.argv[1] if len(sys.argv) > 1 else str(EXAMPLES.parent / "complete")
     with tempfile.TemporaryDirectory(prefix="complete-page-") as name:
-        folder = pathlib.Path(name)
-        index, front, back = folder / "papers.index", free_port(), free_port()
-        subprocess.run([program, "build", ROOT / "examples/papers.tsv", index], check=True)
-        lay_out(folder, front, back)
+        folder, front, back = pathlib.Path(name), free_port(), free_port()
+        lay_out(folder, program, front, back)
         servers = []
         try:
-            servers.append(subprocess.Popen([program, "serve", index, str(back), str(CONNECTIONS)]))
+            servers.append(subprocess.Popen([program, "serve", folder / "current/index", str(back), str(CONNECTIONS)]))
             wait_for(back, servers[-1])
-            servers.append(subprocess.Popen(["nginx", "-p", folder, "-c", folder / "nginx.conf"]))
+            servers.append(subprocess.Popen(front_of(folder, program, front, back)))
             wait_for(front, servers[-1])
             print(f"http://127.0.0.1:{front}/", flush=True)
             while all(server.poll() is None for server in servers):

@@ -1,0 +1,44 @@
+#!/bin/sh
+# Builds an index, and the addresses of its documents, in a folder of its own.
+#
+#     rebuild.sh ROOT COLLECT [PROGRAM]
+#
+# COLLECT is a program of yours, as collect.py is one. It is given a folder and leaves two files in it: collection.tsv, and
+# addresses.txt, which has a line for each document, in their order; it is empty where a document has no address. PROGRAM is
+# `complete`, where none is given.
+#
+# The folder becomes ROOT/builds/TIME, with the index file in it as `index`, and ROOT/next becomes a link to it. Nothing that
+# is served changes until that link is renamed to ROOT/current: by mv -T, between the end of the servers and their start.
+set -eu
+
+root=$1
+collect=$2
+program=${3:-complete}
+
+mkdir -p "$root/builds"
+making=$(mktemp -d "$root/builds/making-XXXXXX")
+trap 'rm -rf "$making"' EXIT
+
+"$collect" "$making"
+"$program" build "$making/collection.tsv" "$making/index"
+
+# Every document is a hit of the empty query. The line of weights is no document, nor is a line without bytes.
+documents=$(echo 'q=&h=0&c=0' | "$program" replay "$making/index" /dev/stdin | sed 's/.*"hits":\([0-9]*\)}}$/\1/')
+addresses=$(grep -c '' "$making/addresses.txt")
+if [ "$documents" != "$addresses" ]; then
+    echo "rebuild.sh: $documents documents, $addresses addresses" >&2
+    exit 1
+fi
+
+build=$(date -u +%Y%m%dT%H%M%SZ)
+if [ -e "$root/builds/$build" ]; then
+    echo "rebuild.sh: another build took this second" >&2
+    exit 1
+fi
+chmod 755 "$making"
+mv "$making" "$root/builds/$build"
+ln -sfn "builds/$build" "$root/next"
+
+# Builds of more than a week ago go, but for the one that is served.
+current=$(readlink "$root/current" || true)
+find "$root/builds" -mindepth 1 -maxdepth 1 -mtime +7 ! -name "${current##*/}" -exec rm -r {} +
