@@ -16,7 +16,7 @@ facet_rows = record { doc = 0; word = 0; pos = 0; score = 2 } ∷ []
 
 -- of so many rows and bytes
 abbrev facet_head : ℕ → ℕ → BlockHead
-facet_head rows len = record { lo = 0; words = 1; rows = rows; len = len; facet = true }
+facet_head rows len = record { lo = 0; words = 1; rows = rows; len = len; facet = true; least = 0; greatest = 0 }
 
 abbrev facet_bytes : List ℕ
 facet_bytes = 0 ∷ 0 ∷ 0 ∷ 0 ∷ 0 ∷ 0 ∷ 0 ∷ 2 ∷ []
@@ -43,7 +43,7 @@ plain_rows =
     ∷ []
 
 abbrev plain_head : BlockHead
-plain_head = record { lo = 1; words = 3; rows = 3; len = 24; facet = false }
+plain_head = record { lo = 1; words = 3; rows = 3; len = 24; facet = false; least = 0; greatest = 0 }
 
 abbrev plain_bytes : List ℕ
 plain_bytes = 0 ∷ 0 ∷ 0 ∷ 0 ∷ 1 ∷ 0 ∷ 2 ∷ 0 ∷ 0 ∷ 0 ∷ 0 ∷ 0 ∷ 1 ∷ 0 ∷ 0 ∷ 0 ∷ 10 ∷ 0 ∷ 0 ∷ 0 ∷ 11 ∷ 4 ∷ 1 ∷ 1 ∷ []

@@ -3,7 +3,7 @@
 --   blocks_accepted, blocks_read    the laws of blocks, for weights of collections
 --   files_of_collections            the law itself
 use Rattle.std.proofs.Common.{◌≡◌, ℕ, ◌≤◌, nat_le, List, [], ◌∷◌, length, refl, sym, ap, subst, ◌∙◌, leb-true}
-use Rattle.std.specs.Prelude.{None}
+use Rattle.std.specs.Prelude.{true, None}
 use Rattle.cs_base.specs.declared.content.doc.Doc.{Doc}
 use Rattle.cs_base.specs.declared.content.doc.Row.{Row}
 use Rattle.cs_base.specs.declared.content.limits.TheConstants.{MAX_ROWS, MAX_WORDS}
@@ -59,5 +59,5 @@ files_of_collections c target i refused image from to =
     let rows : List Row = rows_of (weights c) docs in
     let accepted : docs_refusal c ≡ None = none_first (docs_refusal c) (rows_refusal rows ∷ []) refused in
     let limits = made_limits docs rows target (weights c) i (collection_image c target i refused image from to) (keep_limits c accepted) in
-    let read = files_accepted blocks_read (corpus c) target (weights c) i (corpus_is c) image limits in
+    let read = files_accepted blocks_read true (corpus c) target (weights c) i (corpus_is c) image limits in
     (read.0, read.1, ap image_corpus read.1 ∙ corpora_are_kept (corpus c) target (weights c) i (corpus_is c) image)

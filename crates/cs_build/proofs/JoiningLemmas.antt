@@ -2,7 +2,6 @@
 --
 --   all_front, all_behind     what holds of each of two lists
 --   map_map                   two maps are one
---   both_ok                   what holds of a result by two facts
 --   held_next, held_end       the posts of blocks, block by block
 --   moved_next                and moved posts
 --   joined_words              the new numbers of all words
@@ -14,7 +13,7 @@
 --   ordered_blocks            posts that are in order in each block are those of the rows in order
 --   parted_listed             no row stands twice, so the words are parted alike by the rows in order
 use Rattle.std.proofs.Common.{◌≡◌, ℕ, ◌+◌, ◌<◌, ◌≤◌, Bool, true, false, not, cond, List, [], ◌∷◌, ◌++◌, length, map, drop, get_or, refl, sym, ◌∙◌, ap, ap₂, subst, arith, length-append}
-use Rattle.std.specs.Prelude.{Err, IfOk, Ok, Result, filter}
+use Rattle.std.specs.Prelude.{filter}
 use Rattle.std.specs.List.{All, AllByRecursion, list_any}
 use Rattle.std.specs.List.Sorted.{IsStrictlySortedBy}
 use Rattle.std.specs.Ordering.{nat_cmp, eq_by_cmp}
@@ -25,7 +24,7 @@ use Rattle.std.proofs.Math.Seq.{get_or-append-add}
 use Rattle.std.proofs.lemmas.List.{drop_all, drop_more, get_or_append_left, length-map, map-append}
 use Rattle.std.proofs.lemmas.List.Elements.{All-from_recursion, All-map, recursion_from_All}
 use Rattle.cs_base.specs.content.Members.{members_in}
-use Rattle.cs_base.specs.content.Orders.{by_place, by_row, by_spot}
+use Rattle.cs_base.specs.content.Orders.{by_row, by_spot}
 use Rattle.cs_base.specs.declared.content.doc.Post.{Post}
 use Rattle.cs_base.specs.declared.content.doc.Row.{Row}
 use Rattle.cs_base.proofs.ListsLemmas.{all_of, any_through, map_alike}
@@ -57,11 +56,6 @@ all_behind P xs ys h k d lt = subst P (get_or-append-add xs ys k d) (h (length x
 pub map_map : {X Y Z : Type 0} (f : X → Y) (g : Y → Z) (xs : List X) → map g (map f xs) ≡ map (λ x. g (f x)) xs
 map_map f g [] = refl
 map_map f g (x ∷ xs) = ap (λ l. g (f x) ∷ l) (map_map f g xs)
-
--- what holds of a result by two facts
-pub both_ok : {T E : Type 0} (r : Result T E) (P Q S : T → Type 0) → ((x : T) → P x → Q x → S x) → IfOk r P → IfOk r Q → IfOk r S
-both_ok (Ok x) P Q S f p q = f x p q
-both_ok (Err e) P Q S f p q = tt
 
 -- those that pass a test and those that don't are all
 both_parts : {X : Type 0} (t : X → Bool) (xs : List X) → length (filter t xs) + length (filter (λ x. not (t x)) xs) ≡ length xs

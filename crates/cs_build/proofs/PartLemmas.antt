@@ -30,6 +30,7 @@ use Rattle.cs_base.specs.declared.content.doc.Post.{Post}
 use Rattle.cs_base.specs.declared.content.doc.Row.{Row}
 use Rattle.cs_model.specs.Words.{is_filled}
 use Rattle.cs_model_index.specs.Images.{count_in, block_of, head_of, heads_from}
+use Rattle.cs_model_index.specs.BlockBounds.{greatest_of, least_of}
 use Rattle.cs_model_index.specs.Blocks.{block_bytes}
 use Rattle.cs_model_index.specs.Numbered.{word_at, word_number, post_of, rows_at, numbered, HasWord}
 use Rattle.cs_model_index.specs.Partitions.{Count, is_facet, rows_of_run, is_run, is_one_kind, is_light}
@@ -219,8 +220,8 @@ module _ (ws : Words) (up : IsStrictlySortedBy (slice_cmp nat_cmp) ws) where
     heads_are front (part ∷ parts) lo l some e =
         let block = block_of ws rows part in
         let facet : is_facet (word_at ws lo) ≡ is_facet (word_at part 0) = ap (λ (k : ℕ). is_facet (word_at ws k)) l ∙ ap is_facet (first_word front part (parts_of parts) some.0 e) in
-        ap (λ (f : Bool). let h : BlockHead = record { lo = lo; words = length part; rows = rows_of_run (count_in rows) part; len = length (block_bytes block lo); facet = f } in h ∷ map (run_head ws) (zip (runs_from (count_in rows) (lo + length part) parts) (map (block_of ws rows) parts))) facet
-        ∙ ap (λ (n : ℕ). let h : BlockHead = record { lo = lo; words = length part; rows = n; len = length (block_bytes block lo); facet = is_facet (word_at part 0) } in h ∷ map (run_head ws) (zip (runs_from (count_in rows) (lo + length part) parts) (map (block_of ws rows) parts))) (rows_of_part front part (parts_of parts) rows e)
+        ap (λ (f : Bool). let h : BlockHead = record { lo = lo; words = length part; rows = rows_of_run (count_in rows) part; len = length (block_bytes block lo); facet = f; least = least_of block; greatest = greatest_of block } in h ∷ map (run_head ws) (zip (runs_from (count_in rows) (lo + length part) parts) (map (block_of ws rows) parts))) facet
+        ∙ ap (λ (n : ℕ). let h : BlockHead = record { lo = lo; words = length part; rows = n; len = length (block_bytes block lo); facet = is_facet (word_at part 0); least = least_of block; greatest = greatest_of block } in h ∷ map (run_head ws) (zip (runs_from (count_in rows) (lo + length part) parts) (map (block_of ws rows) parts))) (rows_of_part front part (parts_of parts) rows e)
         ∙ ap (λ hs. head_of lo part block ∷ hs) (heads_are (front ++ part) parts (lo + length part) (omega (arith, l, length-append front part)) some.1 (next_front front part (parts_of parts) e))
 
     pub all_inside : (front : Words) (parts : List Words) (lo : ℕ) → lo ≡ length front → AllByRecursion (λ part. 1 ≤ length part) parts → ws ≡ front ++ parts_of parts → AllByRecursion (λ run. run.lo < length ws) (runs_from (count_in rows) lo parts)

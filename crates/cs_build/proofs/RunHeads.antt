@@ -6,6 +6,7 @@ use Rattle.std.proofs.lemmas.Slice.Zip.{get_or-zip, length-zip}
 use Rattle.cs_base.specs.declared.index.block.BlockHead.{BlockHead}
 use Rattle.cs_base.specs.declared.content.doc.Post.{Post}
 use Rattle.cs_cols.specs.declared.cols.Cols.{Cols}
+use Rattle.cs_model_index.specs.BlockBounds.{greatest_of, least_of}
 use Rattle.cs_model_index.specs.Blocks.{block_bytes}
 use Rattle.cs_model_index.specs.Numbered.{word_at}
 use Rattle.cs_model_index.specs.Partitions.{is_facet}
@@ -21,9 +22,9 @@ all_at P (x ∷ xs) zero d h l = h.0
 all_at P (x ∷ xs) (suc i) d h l = all_at P xs i d h.1 (omega (arith, l))
 
 -- a head that was put together is that of the run and its block
-pub head_is : (ws : List (List ℕ)) (run : Run) (posts : List Post) (lo words rows len : ℕ) (facet : Bool) → lo ≡ run.lo → words ≡ run.words → rows ≡ run.rows → len ≡ length (block_bytes posts run.lo) → facet ≡ is_facet (word_at ws run.lo)
-    → let h : BlockHead = record { lo = lo; words = words; rows = rows; len = len; facet = facet } in h ≡ run_head ws (run, posts)
-head_is ws run posts lo words rows len facet a b c e f = rw (a, b, c, e, f) refl
+pub head_is : (ws : List (List ℕ)) (run : Run) (posts : List Post) (lo words rows len : ℕ) (facet : Bool) (least greatest : ℕ) → lo ≡ run.lo → words ≡ run.words → rows ≡ run.rows → len ≡ length (block_bytes posts run.lo) → facet ≡ is_facet (word_at ws run.lo) → least ≡ least_of posts → greatest ≡ greatest_of posts
+    → let h : BlockHead = record { lo = lo; words = words; rows = rows; len = len; facet = facet; least = least; greatest = greatest } in h ≡ run_head ws (run, posts)
+head_is ws run posts lo words rows len facet least greatest a b c e f g h = rw (a, b, c, e, f, g, h) refl
 
 pub head_more : (ws : List (List ℕ)) (runs : List Run) (bs : List Cols) (i : ℕ) (d : Run) (x : Cols) → length runs ≡ length bs → i < length runs → x ≡ get_or bs i x
     → map (run_head ws) (take (i + 1) (zip runs (map (λ b. b.posts) bs))) ≡ map (run_head ws) (take i (zip runs (map (λ b. b.posts) bs))) ++ run_head ws (get_or runs i d, x.posts) ∷ []

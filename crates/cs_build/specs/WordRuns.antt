@@ -21,6 +21,7 @@ use Rattle.std.specs.List.{AllByRecursion, count_by}
 use Rattle.cs_base.specs.declared.index.block.BlockHead.{BlockHead}
 use Rattle.cs_base.specs.declared.content.doc.Post.{Post}
 use Rattle.cs_cols.specs.declared.cols.Cols.{Cols}
+use Rattle.cs_model_index.specs.BlockBounds.{greatest_of, least_of}
 use Rattle.cs_model_index.specs.Blocks.{block_bytes}
 use Rattle.cs_model_index.specs.Numbered.{word_at}
 use Rattle.cs_model_index.specs.Partitions.{Count, is_facet, rows_of_run, IsPartition}
@@ -100,6 +101,6 @@ pub record CanTake (places : List ℕ) (blocks : List Cols) (posts : List Post) 
 abbrev pub AreTaken : List ℕ → List Post → List Cols → List Cols → Type 0
 AreTaken places posts old new = (runs : List Run) (words : ℕ) (before : List Post) → AreSpans 0 runs words → places ≡ run_places_from 0 runs → AllByRecursion (λ p. p.word < words) posts → AreFilled before runs old → AreFilled (before ++ posts) runs new
 
--- of a run without posts it has no bytes
+-- of a run without posts it has no bytes, and the bounds 0 and 0
 abbrev pub run_head : List (List ℕ) → Run × List Post → BlockHead
-run_head ws p = record { lo = p.0.lo; words = p.0.words; rows = p.0.rows; len = length (block_bytes p.1 p.0.lo); facet = is_facet (word_at ws p.0.lo) }
+run_head ws p = record { lo = p.0.lo; words = p.0.words; rows = p.0.rows; len = length (block_bytes p.1 p.0.lo); facet = is_facet (word_at ws p.0.lo); least = least_of p.1; greatest = greatest_of p.1 }

@@ -2,7 +2,7 @@
 ghost use Rattle.std.specs.Prelude.{◌≡◌, ℕ, ◌≤◌, ◌<◌, length, map, IfOk};
 ghost use Rattle.std.specs.List.{AllByRecursion, zip};
 ghost use Rattle.cs_base.specs.{declared.content.limits.TheConstants.{MAX_ROWS}, index.GapCode.{code}};
-ghost use Rattle.cs_model_index.specs.Blocks.{block_bytes};
+ghost use Rattle.cs_model_index.specs.{BlockBounds.{greatest_of, least_of}, Blocks.{block_bytes}};
 ghost use Rattle.cs_build.specs.WordRuns.{run_head};
 
 use crate::parting::{Run, begins_as_facet};
@@ -26,15 +26,30 @@ pub(crate) fn heads_of(
 {
     let mut heads = Vec::with_capacity(alloc, runs.len())?;
     for (i, run) in runs.iter().enumerate() {
+        let block = &blocks[i];
+        let (least, greatest) = bounds_of(block);
         heads.push(BlockHead {
             lo: run.lo,
             words: run.words,
             rows: run.rows,
-            len: bytes_of(&blocks[i]),
+            len: bytes_of(block),
             facet: begins_as_facet(words.word(run.lo)),
+            least,
+            greatest,
         })?;
     }
     Ok(heads)
+}
+
+// The documents of a block's first and last row; 0 and 0 of no rows.
+fn bounds_of(block: &Cols) -> (u32, u32)
+    ensures least { result.0 ≡ least_of block.now.posts }
+    ensures greatest { result.1 ≡ greatest_of block.now.posts }
+{
+    let docs = block.docs();
+    let least = docs.first().copied().unwrap_or(0);
+    let greatest = docs.last().copied().unwrap_or(0);
+    (least, greatest)
 }
 
 // How many bytes a block has.

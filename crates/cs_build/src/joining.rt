@@ -56,32 +56,6 @@ pub fn joined_image(
     ensures writable { length (title_bytes titles) < 2 ^ 32 → IfOk result CanBeWritten }
     ensures limits { 1 ≤ a.now.target → KeepLimits a.now.weights titles (joined_rows words a.now first.now b.now second.now) → IfOk result HasLimits }
 {
-    joined(alloc, words, a, first, b, second, titles)
-}
-
-fn joined(
-    alloc: Global,
-    words: Vocab,
-    a: &Image,
-    first: &[u32],
-    b: &Image,
-    second: &[u32],
-    titles: Seq<Text>,
-) -> Result<Image, Memory>
-    requires first { All (λ p. p.word < length first.now) (image_posts a.now) }
-    requires second { All (λ p. p.word < length second.now) (image_posts b.now) }
-    requires known { All (λ p. p.word < length words) (joined_posts a.now first.now b.now second.now) }
-    requires words { words ≡ distinct_words (rows_at words (joined_posts a.now first.now b.now second.now)) }
-    requires once { length (joined_posts a.now first.now b.now second.now) ≤ length (joined_rows words a.now first.now b.now second.now) }
-    requires corpus { IsCorpus (corpus_of_rows titles (joined_rows words a.now first.now b.now second.now)) }
-    requires few { length (joined_posts a.now first.now b.now second.now) ≤ MAX_ROWS }
-    requires few_docs { length titles ≤ MAX_DOCS }
-    requires docs { length a.now.titles ≤ length titles }
-    requires target { a.now.target ≤ MAX_TARGET }
-
-    ensures ok { IfOk result (IsImage (corpus_of_rows titles (joined_rows words a.now first.now b.now second.now)) a.now.target a.now.weights) }
-    ensures titles { IfOk result (λ i. i.titles ≡ titles) }
-{
     let numbers = numbers_of(alloc, a, first, b, second)?;
     let runs = runs_of(alloc, &words, &numbers, a.target)?;
     drop(numbers);

@@ -194,7 +194,7 @@ module _ (b : List ℕ) (i : IndexView) (stands : StandsFor b i) (is : IsIndex i
   blocks = (image_of b).blocks
 
   abbrev none : BlockHead
-  none = record { lo = 0; words = 0; rows = 0; len = 0; facet = false }
+  none = record { lo = 0; words = 0; rows = 0; len = 0; facet = false; least = 0; greatest = 0 }
 
   -- the blocks from number first up to last
   cut_at : (first last k : ℕ) → first ≤ last → last ≤ length i.heads → k < length (take (last - first) (drop first blocks))

@@ -152,7 +152,7 @@ in_block (b ∷ bs) x c =
     ]
 
 none : BlockHead
-none = record { lo = 0; words = 0; rows = 0; len = 0; facet = false }
+none = record { lo = 0; words = 0; rows = 0; len = 0; facet = false; least = 0; greatest = 0 }
 
 module _ (b : List ℕ) (i : IndexView) (s : StandsFor b i) (is : IsIndex i) where
   abbrev all : List Post

@@ -10,8 +10,9 @@
 --   fault_along         of one that passes a fault on
 --   read_once           what is left of the store by a call that read once
 --   TitleRead, TitleSpan, title_span, title_found       the same of a title
+--   text_long, text_utf8        its text
 --   title_by, title_stood, title_unchanged, title_changed        the clauses of a title, from that and from whether it is text
-use Rattle.std.proofs.Common.{◌≡◌, ℕ, ◌+◌, ◌-◌, ◌<◌, ◌≤◌, ◌^◌, false, true≢false, List, length, get_or, take}
+use Rattle.std.proofs.Common.{◌≡◌, ℕ, ◌+◌, ◌-◌, ◌<◌, ◌≤◌, ◌^◌, true, false, true≢false, List, length, get_or, take}
 use Rattle.std.proofs.Common.{Option, Some, None, Result, Ok, Err, refl, sym, ap, subst, ◌∙◌, arith}
 use Rattle.std.specs.Option.{ForSome, option_map}
 use Rattle.std.specs.Prelude.{IfErr, IfOk, IsErrAnd}
@@ -73,7 +74,7 @@ unbroken_fault at o fetches.Read h none = refl
 unbroken_fault at o fetches.Memory h none = refl
 
 abbrev pub nothing : BlockHead
-nothing = record { lo = 0; words = 0; rows = 0; len = 0; facet = false }
+nothing = record { lo = 0; words = 0; rows = 0; len = 0; facet = false; least = 0; greatest = 0 }
 
 pub block_at : (i own : IndexView) (k : ℕ) (hs : List BlockHead) (at : ℕ) → own ≡ i → IsIndex i → hs ≡ own.heads
     → k < length i.heads → at ≡ block_place i k → IsBlockAt i k (record { head = get_or hs k nothing; docs = own.docs; weights = own.weights; at = at })
@@ -240,6 +241,15 @@ title_found {i} {own} {told} {d} {os} {from} seen is same lt from_is found =
       read_is = λ b t. found b t ∙ ap (λ (n : ℕ). part b at (to - n)) (sym from_is) ∙ ap (λ (n : ℕ). part b n (to - from)) span.at_is
           ∙ ap (part b (title_place i d)) span.len_is;
     }
+
+-- of a title that was read, its length, and that it is text
+pub text_long : (read : List ℕ) (at n : ℕ) (r : Result (List ℕ) FetchFault) → length read ≡ n → ReadsText read at r → IfOk r (λ t. length t ≡ n)
+text_long read at n (Ok text) long answer = ap length answer.0 ∙ long
+text_long read at n (Err e) long answer = tt
+
+pub text_utf8 : (read : List ℕ) (at : ℕ) (r : Result (List ℕ) FetchFault) → ReadsText read at r → IfOk r (λ t. is_utf8 t ≡ true)
+text_utf8 read at (Ok text) answer = ap is_utf8 answer.0 ∙ answer.1
+text_utf8 read at (Err e) answer = tt
 
 module _ {i : IndexView} {told : Option (List ℕ)} {d at : ℕ} {read : List ℕ} (h : TitleRead i told d at read) where
   pub title_by : (r : Result (List ℕ) FetchFault) → ReadsText read at r → ForSome told (λ b. IfOk r (λ t. t ≡ part b (title_place i d) (title_len i d)))

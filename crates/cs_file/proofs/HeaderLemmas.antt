@@ -6,7 +6,7 @@
 --   header_part          what is read of the first bytes is what is read of all
 --   refused_short, rest_is     rule 1, and the others where it holds
 --   header_told          the header is that of all bytes
-use Rattle.std.proofs.Common.{◌≡◌, ℕ, ◌+◌, ◌-◌, ◌<◌, ◌≤◌, ◌^◌, ◌==◌, List, [], ◌∷◌, length, take, drop, Option, Some, None, refl, sym, ap, subst, ◌∙◌, arith}
+use Rattle.std.proofs.Common.{◌≡◌, ℕ, ◌+◌, ◌-◌, ◌<◌, ◌≤◌, ◌^◌, ◌==◌, ◌||◌, List, [], ◌∷◌, length, take, drop, Option, Some, None, refl, sym, ap, subst, ◌∙◌, arith}
 use Rattle.std.specs.Prelude.{nat_le}
 use Rattle.std.specs.List.{AllByRecursion}
 use Rattle.std.specs.Int.{w32, from_be_bytes}
@@ -18,7 +18,7 @@ use Rattle.cs_base.specs.outside.Outside.{part}
 use Rattle.cs_model.proofs.FirstLemmas.{none_first, none_rest, unless_none}
 use Rattle.cs_model.specs.First.{unless, first_reason}
 use Rattle.cs_model_index.specs.FileRules.{tried, field_breaks}
-use Rattle.cs_model_index.specs.Layout.{Header, MAGIC}
+use Rattle.cs_model_index.specs.Layout.{Header, MAGIC, MAGIC2}
 use Rattle.cs_model_index.specs.Sections.{number_at, header_of, size_by}
 use Rattle.cs_model_index.specs.declared.limits.TheConstants.{HEADER_BYTES}
 use Rattle.cs_file.specs.declared.fault.OpenFault.{OpenFault}
@@ -27,7 +27,7 @@ use Rattle.cs_file.proofs.StagesLemmas.{first_none, none_of_all, refuses_first, 
 
 -- ---- rules 2 to 4
 abbrev magic_break : List ℕ → Option ℕ
-magic_break bytes = unless (bytes_eq (take 8 bytes) MAGIC) 0
+magic_break bytes = unless (bytes_eq (take 8 bytes) MAGIC || bytes_eq (take 8 bytes) MAGIC2) 0
 
 abbrev field_break : List ℕ → Option ℕ
 field_break bytes = first_reason (field_breaks (header_of bytes))
@@ -38,19 +38,19 @@ size_break bytes size = unless (size == size_by (header_of bytes)) size
 abbrev others : List ℕ → ℕ → List (Option Broken)
 others bytes size = tried 3 (field_break bytes) ∷ tried 4 (size_break bytes size) ∷ []
 
-pub refused_magic : (bytes : List ℕ) (size : ℕ) (p : Option ℕ) (e : OpenFault) → p ≡ unless (bytes_eq (take 8 bytes) MAGIC) 0 → Refuses (tried 2 p) e
+pub refused_magic : (bytes : List ℕ) (size : ℕ) (p : Option ℕ) (e : OpenFault) → p ≡ unless (bytes_eq (take 8 bytes) MAGIC || bytes_eq (take 8 bytes) MAGIC2) 0 → Refuses (tried 2 p) e
     → Refuses (header_judged bytes size) e
 unfolding header_judged
 refused_magic bytes size p e is h = refuses_first (tried 2 (magic_break bytes)) (others bytes size) e (subst (λ (x : Option ℕ). Refuses (tried 2 x) e) is h)
 
-pub refused_field : (bytes : List ℕ) (size : ℕ) (p q : Option ℕ) (e : OpenFault) → p ≡ unless (bytes_eq (take 8 bytes) MAGIC) 0 → tried 2 p ≡ None
+pub refused_field : (bytes : List ℕ) (size : ℕ) (p q : Option ℕ) (e : OpenFault) → p ≡ unless (bytes_eq (take 8 bytes) MAGIC || bytes_eq (take 8 bytes) MAGIC2) 0 → tried 2 p ≡ None
     → q ≡ first_reason (field_breaks (header_of bytes)) → Refuses (tried 3 q) e → Refuses (header_judged bytes size) e
 unfolding header_judged
 refused_field bytes size p q e is none this h =
     refuses_rest (tried 2 (magic_break bytes)) (others bytes size) e (ap (tried 2) (sym is) ∙ none)
     (refuses_first (tried 3 (field_break bytes)) (tried 4 (size_break bytes size) ∷ []) e (subst (λ (x : Option ℕ). Refuses (tried 3 x) e) this h))
 
-pub refused_size : (bytes : List ℕ) (size : ℕ) (p q s : Option ℕ) (e : OpenFault) → p ≡ unless (bytes_eq (take 8 bytes) MAGIC) 0 → tried 2 p ≡ None
+pub refused_size : (bytes : List ℕ) (size : ℕ) (p q s : Option ℕ) (e : OpenFault) → p ≡ unless (bytes_eq (take 8 bytes) MAGIC || bytes_eq (take 8 bytes) MAGIC2) 0 → tried 2 p ≡ None
     → q ≡ first_reason (field_breaks (header_of bytes)) → tried 3 q ≡ None
     → s ≡ unless (size == size_by (header_of bytes)) size → Refuses (tried 4 s) e → Refuses (header_judged bytes size) e
 unfolding header_judged
@@ -59,7 +59,7 @@ refused_size bytes size p q s e is none this fine last h =
     (refuses_rest (tried 3 (field_break bytes)) (tried 4 (size_break bytes size) ∷ []) e (ap (tried 3) (sym this) ∙ fine)
     (refuses_first (tried 4 (size_break bytes size)) [] e (subst (λ (x : Option ℕ). Refuses (tried 4 x) e) last h)))
 
-pub header_fine : (bytes : List ℕ) (size : ℕ) (p q s : Option ℕ) → p ≡ unless (bytes_eq (take 8 bytes) MAGIC) 0 → tried 2 p ≡ None
+pub header_fine : (bytes : List ℕ) (size : ℕ) (p q s : Option ℕ) → p ≡ unless (bytes_eq (take 8 bytes) MAGIC || bytes_eq (take 8 bytes) MAGIC2) 0 → tried 2 p ≡ None
     → q ≡ first_reason (field_breaks (header_of bytes)) → tried 3 q ≡ None
     → s ≡ unless (size == size_by (header_of bytes)) size → tried 4 s ≡ None → header_judged bytes size ≡ None
 unfolding header_judged
@@ -106,9 +106,13 @@ number_part b at le =
     ap (λ (x : List ℕ). from_be_bytes w32 (take 4 x)) (ap (λ (n : ℕ). drop at (take n b)) (sym e) ∙ drop-take at (44 - at) b)
     ∙ ap (λ (x : List ℕ). from_be_bytes w32 x) (take-take 4 (44 - at) (drop at b) (omega arith))
 
+magic_part : (b : List ℕ) → take 8 (part b 0 HEADER_BYTES) ≡ take 8 b
+magic_part b = take-take 8 44 b (omega arith)
+
 pub header_part : (b : List ℕ) → header_of (part b 0 HEADER_BYTES) ≡ header_of b
 header_part b =
     rw (
+      magic_part b,
       number_part b 8 (omega arith),
       number_part b 12 (omega arith),
       number_part b 16 (omega arith),
@@ -119,9 +123,6 @@ header_part b =
       number_part b 36 (omega arith),
       number_part b 40 (omega arith),
     ) refl
-
-magic_part : (b : List ℕ) → take 8 (part b 0 HEADER_BYTES) ≡ take 8 b
-magic_part b = take-take 8 44 b (omega arith)
 
 abbrev short_break : ℕ → Option ℕ
 short_break size = unless (nat_le HEADER_BYTES size) size
@@ -135,7 +136,7 @@ stage_is b =
     ∙ ap (λ (h : Header). first_reason (first ∷ first_reason
     (tried 2 (magic_break b) ∷ tried 3 (first_reason (field_breaks h)) ∷ tried 4 (unless (n == size_by h) n) ∷ []) ∷ [])) (sym (header_part b))
     ∙ ap (λ (m : List ℕ). first_reason (first ∷ first_reason
-    (tried 2 (unless (bytes_eq m MAGIC) 0) ∷ tried 3 (field_break (part b 0 HEADER_BYTES)) ∷ tried 4 (size_break (part b 0 HEADER_BYTES) n) ∷ []) ∷ []))
+    (tried 2 (unless (bytes_eq m MAGIC || bytes_eq m MAGIC2) 0) ∷ tried 3 (field_break (part b 0 HEADER_BYTES)) ∷ tried 4 (size_break (part b 0 HEADER_BYTES) n) ∷ []) ∷ []))
     (sym (magic_part b))
   where
     joined : (o p q r : Option Broken) → first_reason (o ∷ p ∷ q ∷ r ∷ []) ≡ first_reason (o ∷ first_reason (p ∷ q ∷ r ∷ []) ∷ [])

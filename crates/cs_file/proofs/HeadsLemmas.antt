@@ -153,7 +153,7 @@ pub met_between : (i : IndexView) → IsIndex i → (lo hi first last : ℕ) →
     → IsPartitionPoint (λ h. nat_lt h.lo hi ≡ true) (λ h. nat_lt h.lo hi ≡ false) i.heads last
     → AreMet i.heads lo hi first last
 met_between i is lo hi first last some f l ends begins =
-    let none : BlockHead = record { lo = 0; words = 0; rows = 0; len = 0; facet = false } in
+    let none : BlockHead = record { lo = 0; words = 0; rows = 0; len = 0; facet = false; least = 0; greatest = 0 } in
     record {
       ordered = elim (cases_lt last first) [
         | inl early ↦

@@ -4,6 +4,7 @@
 --   Rest holds size first xs i at       the first break among the items from number i on, which lies at `at`, is that of all
 --   rest_start, rest_on, rest_broken, rest_end        the steps of a search from the left
 --   RestOfEven, even_start, even_on, even_broken, even_end      the same of items of one size, where item i lies at first + size * i
+--   break_cons           the first break of an item and of those behind it
 --   all_hold             where no item breaks a rule, each keeps it
 --   held_anywhere        and so it does wherever the values lie
 use Rattle.std.proofs.Common.{◌≡◌, ℕ, zero, suc, ◌+◌, ◌*◌, ◌<◌, ◌≤◌, ◌&&◌, Bool, true, false, not, cond, List, [], ◌∷◌, length, get_or, slice_index_or, drop}
@@ -121,6 +122,16 @@ module _ {X : Type 0} (holds : Placed X → Bool) (size first : ℕ) (xs : List 
   even_end i le h = rest_end holds (λ x. size) first xs i (first + size * i) le h
 
 -- ---- all items
+pub break_cons : {X : Type 0} (holds : Placed X → Bool) (i : Placed X) (items : List (Placed X))
+    → break_of holds (i ∷ items) ≡ cond (holds i) (break_of holds items) (Some i.at)
+unfolding break_of
+break_cons holds i items = step (holds i) i (find (λ j. not (holds j)) items)
+  where
+    step : {X : Type 0} (b : Bool) (i : Placed X) (o : Option (Placed X))
+        → option_map place_of_item (cond (not b) (Some i) o) ≡ cond b (option_map place_of_item o) (Some i.at)
+    step true i o = refl
+    step false i o = refl
+
 found_none : {X : Type 0} (b : Bool) (i : Placed X) (o : Option (Placed X)) → option_map place_of_item (cond (not b) (Some i) o) ≡ None
     → (b ≡ true) × (option_map place_of_item o ≡ None)
 found_none true i o e = (refl, e)
@@ -134,8 +145,9 @@ all_hold holds (i ∷ items) e =
     and_from (holds i) (list_all holds items) p.0 (all_hold holds items p.1)
 
 -- of a test that doesn't ask where an item lies
-pub held_anywhere : {X : Type 0} (holds : Option X → X → Bool) (size : X → ℕ) (at there : ℕ) (last : Option X) (xs : List X)
-    → list_all (λ i. holds i.last i.value) (laid size at last xs) ≡ list_all (λ i. holds i.last i.value) (laid size there last xs)
+pub held_anywhere : {X : Type 0} (holds : Option X → X → Bool) (size other : X → ℕ) (at there : ℕ) (last : Option X) (xs : List X)
+    → list_all (λ i. holds i.last i.value) (laid size at last xs) ≡ list_all (λ i. holds i.last i.value) (laid other there last xs)
 unfolding laid
-held_anywhere holds size at there last [] = refl
-held_anywhere holds size at there last (x ∷ xs) = ap (λ (b : Bool). holds last x && b) (held_anywhere holds size (at + size x) (there + size x) (Some x) xs)
+held_anywhere holds size other at there last [] = refl
+held_anywhere holds size other at there last (x ∷ xs) =
+    ap (λ (b : Bool). holds last x && b) (held_anywhere holds size other (at + size x) (there + other x) (Some x) xs)

@@ -1,3 +1,4 @@
+pub mod BareHeads
 pub mod BlockParts
 pub mod BytesLemmas
 pub mod DirectoryLemmas
@@ -6,7 +7,12 @@ pub mod FetchLemmas
 pub mod FilledPieces
 pub mod HeaderLemmas
 pub mod HeadsLemmas
+pub mod ImageBytes
 pub mod ImagedFiles
+pub mod ImageParts
+pub mod ImageSteps
+pub mod ImageStood
+pub mod ImageWritten
 pub mod KindsLemmas
 pub mod LaidLemmas
 pub mod MarkedNumbers

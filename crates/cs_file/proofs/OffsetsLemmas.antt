@@ -79,7 +79,7 @@ spans i is d lt =
     let count = is.offsets in
     let known : suc d < length i.offsets = omega (arith, count) in
     let one : d + 1 ≡ suc d = omega arith in
-    let place = is.blocks_place in
+    let place = is.blocks_place.1 in
     record {
       known = known;
       onward = rw one (onward_next 0 None i.offsets d is.onward known);

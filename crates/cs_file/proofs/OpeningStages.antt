@@ -1,7 +1,7 @@
 -- A file that is opened: its stages one behind the other, and the index that is kept of it.
 --
 --   damage_is          the first broken rule is that of the first stage that finds one
---   in_header .. in_parting     the fault of each stage is the damage, where none before it finds one
+--   in_header .. in_parts     the fault of each stage is the damage, where none before it finds one
 --   damaged_along      an answer that passes a fault on
 --   Kept, kept_view    what is known of what is kept
 --   index_kept         it is what an opened index keeps
@@ -9,7 +9,7 @@
 --   AllRead, read_whole           where all bytes were read, all are below 256
 --   same_index, index_is, stands_for          over a store that tells it stands for the bytes
 --   fits_store         and the blocks lie within them
-use Rattle.std.proofs.Common.{◌≡◌, ℕ, ◌+◌, ◌*◌, ◌<◌, ◌≤◌, ◌^◌, List, [], ◌∷◌, ◌++◌, length, take, Option, Some, None, Result, Ok, Err, refl, sym, ap, subst}
+use Rattle.std.proofs.Common.{◌≡◌, ℕ, ◌+◌, ◌*◌, ◌<◌, ◌≤◌, ◌^◌, Bool, true, false, List, [], ◌∷◌, ◌++◌, length, take, Option, Some, None, Result, Ok, Err, refl, sym, ap, subst}
 use Rattle.std.proofs.Common.{◌∙◌, arith}
 use Rattle.std.specs.Prelude.{All, IfErr}
 use Rattle.std.specs.List.{sum_by}
@@ -23,18 +23,18 @@ use Rattle.cs_base.specs.declared.content.scores.Weights.{Weights}
 use Rattle.cs_model.specs.Weights.{AreWeights}
 use Rattle.cs_model.specs.First.{first_reason}
 use Rattle.cs_model_index.specs.Blocks.{IsShaped}
-use Rattle.cs_model_index.specs.FileRules.{header_rules, vocabulary_rules, title_rules, directory_rules, parting_rules, damage}
-use Rattle.cs_model_index.specs.Layout.{Header}
+use Rattle.cs_model_index.specs.FileRules.{header_rules, vocabulary_rules, title_rules, directory_rules, parting_rules, bound_rules, damage}
+use Rattle.cs_model_index.specs.Layout.{Header, entry_size}
 use Rattle.cs_model_index.specs.Sections.{header_of, contents_of, vocabulary_at, offsets_at, titles_at, directory_at, blocks_at, size_by}
 use Rattle.cs_model_index.specs.WeightsField.{weights_of}
-use Rattle.cs_model_index.specs.declared.limits.TheConstants.{HEADER_BYTES, NUMBER_BYTES, ENTRY_BYTES}
+use Rattle.cs_model_index.specs.declared.limits.TheConstants.{HEADER_BYTES, NUMBER_BYTES}
 use Rattle.cs_model_index.proofs.WeightsFieldLemmas.{weights_fine}
 use Rattle.cs_file.specs.CallAnswers.{IsDamageOf}
 use Rattle.cs_file.specs.declared.fault.OpenFault.{OpenFault}
 use Rattle.cs_file.specs.declared.fault.OpenFault.TheVariants as opens
 use Rattle.cs_file.specs.Indexes.{IndexView, IsIndex, index_of, StandsFor, HasAllBlocks}
 use Rattle.cs_file.specs.Opening.{Refuses, AreBytes, IsHeader, IsHeaderOf, HasHeader, HasVocabulary, HasOffsets, HasHeads, header_stage, vocabulary_stage}
-use Rattle.cs_file.specs.Opening.{titles_stage, directory_stage, blocks_stage, parting_stage, file_words, offsets_of, heads_of}
+use Rattle.cs_file.specs.Opening.{titles_stage, directory_stage, blocks_stage, parts_stage, file_words, offsets_of, heads_of}
 use Rattle.cs_file.proofs.BytesLemmas.{more_front, all_bytes}
 use Rattle.cs_file.proofs.HeadsLemmas.{head_shaped}
 use Rattle.cs_file.proofs.StagesLemmas.{refuses_first}
@@ -68,12 +68,12 @@ abbrev then : Option Broken → Option Broken → Option Broken
 then o p = first_reason (o ∷ p ∷ [])
 
 pub damage_is : (b : List ℕ) → damage b ≡ then (header_stage b)
-    (then (vocabulary_stage b) (then (titles_stage b) (then (directory_stage b) (then (blocks_stage b) (parting_stage b)))))
-unfolding damage header_stage vocabulary_stage titles_stage directory_stage blocks_stage parting_stage
+    (then (vocabulary_stage b) (then (titles_stage b) (then (directory_stage b) (then (blocks_stage b) (parts_stage b)))))
+unfolding damage header_stage vocabulary_stage titles_stage directory_stage blocks_stage parts_stage
 damage_is b =
     let r = contents_of b in
     let x = blocks_stage b in
-    let ps = parting_rules r in
+    let ps = parting_rules r ++ bound_rules r in
     let ds = directory_rules r in
     let ts = title_rules r in
     let vs = vocabulary_rules r in
@@ -90,24 +90,24 @@ along b opens.Memory h = tt
 
 -- where the stages before it found no broken rule, the rest is all
 from_vocabulary : (b : List ℕ) → header_stage b ≡ None
-    → damage b ≡ then (vocabulary_stage b) (then (titles_stage b) (then (directory_stage b) (then (blocks_stage b) (parting_stage b))))
+    → damage b ≡ then (vocabulary_stage b) (then (titles_stage b) (then (directory_stage b) (then (blocks_stage b) (parts_stage b))))
 from_vocabulary b p = damage_is b ∙ behind (header_stage b) _ p
 
 from_titles : (b : List ℕ) → header_stage b ≡ None → vocabulary_stage b ≡ None
-    → damage b ≡ then (titles_stage b) (then (directory_stage b) (then (blocks_stage b) (parting_stage b)))
+    → damage b ≡ then (titles_stage b) (then (directory_stage b) (then (blocks_stage b) (parts_stage b)))
 from_titles b p q = from_vocabulary b p ∙ behind (vocabulary_stage b) _ q
 
 from_directory : (b : List ℕ) → header_stage b ≡ None → vocabulary_stage b ≡ None → titles_stage b ≡ None
-    → damage b ≡ then (directory_stage b) (then (blocks_stage b) (parting_stage b))
+    → damage b ≡ then (directory_stage b) (then (blocks_stage b) (parts_stage b))
 from_directory b p q r = from_titles b p q ∙ behind (titles_stage b) _ r
 
 from_blocks : (b : List ℕ) → header_stage b ≡ None → vocabulary_stage b ≡ None → titles_stage b ≡ None → directory_stage b ≡ None
-    → damage b ≡ then (blocks_stage b) (parting_stage b)
+    → damage b ≡ then (blocks_stage b) (parts_stage b)
 from_blocks b p q r s = from_directory b p q r ∙ behind (directory_stage b) _ s
 
-from_parting : (b : List ℕ) → header_stage b ≡ None → vocabulary_stage b ≡ None → titles_stage b ≡ None → directory_stage b ≡ None → blocks_stage b ≡ None
-    → damage b ≡ parting_stage b
-from_parting b p q r s t = from_blocks b p q r s ∙ behind (blocks_stage b) _ t
+from_parts : (b : List ℕ) → header_stage b ≡ None → vocabulary_stage b ≡ None → titles_stage b ≡ None → directory_stage b ≡ None → blocks_stage b ≡ None
+    → damage b ≡ parts_stage b
+from_parts b p q r s t = from_blocks b p q r s ∙ behind (blocks_stage b) _ t
 
 -- the fault of the first of two
 first_of : (b : List ℕ) (o p : Option Broken) (e : OpenFault) → damage b ≡ then o p → Refuses o e → IsDamageOf b e
@@ -130,9 +130,9 @@ pub in_blocks : (b : List ℕ) (e : OpenFault) → header_stage b ≡ None → v
     → Refuses (blocks_stage b) e → IsDamageOf b e
 in_blocks b e p q r s h = first_of b (blocks_stage b) _ e (from_blocks b p q r s) h
 
-pub in_parting : (b : List ℕ) (e : OpenFault) → header_stage b ≡ None → vocabulary_stage b ≡ None → titles_stage b ≡ None → directory_stage b ≡ None
-    → blocks_stage b ≡ None → Refuses (parting_stage b) e → IsDamageOf b e
-in_parting b e p q r s t h = along b e (subst (λ (x : Option Broken). Refuses x e) (sym (from_parting b p q r s t)) h)
+pub in_parts : (b : List ℕ) (e : OpenFault) → header_stage b ≡ None → vocabulary_stage b ≡ None → titles_stage b ≡ None → directory_stage b ≡ None
+    → blocks_stage b ≡ None → Refuses (parts_stage b) e → IsDamageOf b e
+in_parts b e p q r s t h = along b e (subst (λ (x : Option Broken). Refuses x e) (sym (from_parts b p q r s t)) h)
 
 pub damaged_along : {T : Type 0} (b : List ℕ) (e : OpenFault) (r : Result T OpenFault) → IsDamageOf b e → IsErrAnd r (λ x. x ≡ e) → IfErr r (IsDamageOf b)
 damaged_along b e (Ok x) h is = tt
@@ -154,6 +154,12 @@ pub record Kept (h : Header) (i : IndexView) : Type 0 where
 all_lens : (i : IndexView) → sum_by (λ h. h.len) (take (length i.heads) i.heads) ≡ sum_by (λ h. h.len) i.heads
 all_lens i = ap (sum_by (λ h. h.len)) (take_all (length i.heads) i.heads (omega arith))
 
+-- of a directory
+few_bytes : (two : Bool) (n : ℕ) → entry_size two * n ≤ 24 * n
+unfolding entry_size
+few_bytes true n = omega arith
+few_bytes false n = omega arith
+
 pub index_kept : (h : Header) (i : IndexView) → Kept h i → IsIndex i
 index_kept h i k = record {
   few_docs = omega (arith, k.docs, k.header.docs);
@@ -172,10 +178,11 @@ index_kept h i k = record {
   sized = k.heads.sized;
   few_rows = omega (arith, k.heads.rows, k.header.rows);
   titles_place = omega (arith, k.titles_place, k.words.len, k.docs);
-  blocks_place = omega (arith, k.titles_place, k.blocks_place, k.offsets.end, k.heads.count);
+  blocks_place = (h.two, omega (arith, k.titles_place, k.blocks_place, k.offsets.end, ap (λ (n : ℕ). entry_size h.two * n) k.heads.count));
   small = omega (
     arith,
     k.blocks_place,
+    few_bytes h.two h.blocks,
     k.header.docs,
     k.header.words,
     k.header.blocks,
@@ -233,7 +240,7 @@ pub record AllRead (b : List ℕ) (h : Header) : Type 0 where
   pub vocabulary : AreBytes b vocabulary_at h.vocabulary_len
   pub offsets : AreBytes b (offsets_at h) (NUMBER_BYTES * (h.docs + 1))
   pub titles : AreBytes b (titles_at h) h.titles_len
-  pub directory : AreBytes b (directory_at h) (ENTRY_BYTES * h.blocks)
+  pub directory : AreBytes b (directory_at h) (entry_size h.two * h.blocks)
   pub blocks : AreBytes b (blocks_at h) h.blocks_len
 
 pub read_whole : (b : List ℕ) (h : Header) → IsHeaderOf b h → AllRead b h → All (λ x. x < 2 ^ 8) b
@@ -241,7 +248,7 @@ read_whole b h is r =
     let one = more_front b HEADER_BYTES h.vocabulary_len r.header r.vocabulary in
     let two = more_front b (offsets_at h) (NUMBER_BYTES * (h.docs + 1)) one r.offsets in
     let three = more_front b (titles_at h) h.titles_len two r.titles in
-    let four = more_front b (directory_at h) (ENTRY_BYTES * h.blocks) three r.directory in
+    let four = more_front b (directory_at h) (entry_size h.two * h.blocks) three r.directory in
     all_bytes b (size_by h) is.size (more_front b (blocks_at h) h.blocks_len four r.blocks)
 
 -- ---- the index of bytes
@@ -264,10 +271,10 @@ index_is b h i is docs words offsets heads target weights titles blocks =
     (blocks ∙ ap blocks_at back)
 
 pub stands_for : (b : List ℕ) (h : Header) (i : IndexView) → IsHeaderOf b h → AllRead b h → header_stage b ≡ None → vocabulary_stage b ≡ None
-    → titles_stage b ≡ None → directory_stage b ≡ None → blocks_stage b ≡ None → parting_stage b ≡ None → i ≡ index_of b → StandsFor b i
+    → titles_stage b ≡ None → directory_stage b ≡ None → blocks_stage b ≡ None → parts_stage b ≡ None → i ≡ index_of b → StandsFor b i
 stands_for b h i is read p q r s t u same = record {
   bytes = read_whole b h is read;
-  accepted = from_parting b p q r s t ∙ u;
+  accepted = from_parts b p q r s t ∙ u;
   index = same;
 }
 

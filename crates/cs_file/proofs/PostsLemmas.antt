@@ -116,7 +116,7 @@ met_by lo hi h p from to none = false_from_ne_true _ (λ e.
 pub posts_between : (b : List ℕ) (i : IndexView) → StandsFor b i → IsIndex i → (lo hi first last : ℕ) → AreMet i.heads lo hi first last
     → filter (is_between lo hi) (image_posts (image_of b)) ≡ flat_map (filter (is_between lo hi)) (take (last - first) (drop first (image_of b).blocks))
 posts_between b i s is lo hi first last met =
-    let none : BlockHead = record { lo = 0; words = 0; rows = 0; len = 0; facet = false } in
+    let none : BlockHead = record { lo = 0; words = 0; rows = 0; len = 0; facet = false; least = 0; greatest = 0 } in
     let bs = (image_of b).blocks in
     let count : length bs ≡ length i.heads = stood_count b i s in
     let within = met.within in
@@ -135,7 +135,7 @@ flat_all P (b ∷ bs) h = All-append P b (flat_map (λ block. block) bs) (h 0 (o
 
 pub posts_known : (b : List ℕ) (i : IndexView) → StandsFor b i → IsIndex i → All (λ p. (p.word < length i.words) × (p.doc < i.docs)) (image_posts (image_of b))
 posts_known b i s is =
-    let none : BlockHead = record { lo = 0; words = 0; rows = 0; len = 0; facet = false } in
+    let none : BlockHead = record { lo = 0; words = 0; rows = 0; len = 0; facet = false; least = 0; greatest = 0 } in
     let count : length (image_of b).blocks ≡ length i.heads = stood_count b i s in
     flat_all (λ p. (p.word < length i.words) × (p.doc < i.docs)) (image_of b).blocks (λ k lt.
     let lt' : k < length i.heads = omega (arith, count, lt) in

@@ -7,7 +7,7 @@
 --   file_long         the file of an image is as long as its header says
 --   pair_at           a head with the posts of its block
 --   same_numbers      nine numbers
-use Rattle.std.proofs.Common.{◌≡◌, ℕ, ◌+◌, ◌*◌, ◌<◌, ◌≤◌, List, [], ◌∷◌, ◌++◌, length, map, take, get_or, append-nil, refl, sym, ◌∙◌, ap, arith, length-append}
+use Rattle.std.proofs.Common.{◌≡◌, ℕ, ◌+◌, ◌*◌, ◌<◌, ◌≤◌, true, List, [], ◌∷◌, ◌++◌, length, map, take, get_or, append-nil, refl, sym, ◌∙◌, ap, arith, length-append}
 use Rattle.std.specs.Prelude.{flat_map}
 use Rattle.std.specs.List.{sum_by, zip, AllByRecursion}
 use Rattle.std.proofs.lemmas.Grind.{flat_map-append}
@@ -22,7 +22,7 @@ use Rattle.cs_base.specs.declared.content.doc.Post.{Post}
 use Rattle.cs_model_index.specs.Blocks.{block_bytes}
 use Rattle.cs_model_index.specs.Images.{Image}
 use Rattle.cs_model_index.specs.Layout.{number_bytes, Header, header_bytes, vocabulary_bytes, offsets_from, offset_bytes, title_bytes, directory_bytes}
-use Rattle.cs_model_index.specs.Layout.{blocks_bytes, header_of_image, file}
+use Rattle.cs_model_index.specs.Layout.{blocks_bytes, entry_size, header_of_image, file, file_in}
 use Rattle.cs_model_index.specs.Sections.{size_by}
 use Rattle.cs_model_index.specs.declared.limits.TheConstants.{HEADER_BYTES}
 use Rattle.cs_model_index.proofs.AgainLemmas.{offsets_count}
@@ -63,7 +63,7 @@ offsets_size : (ts : List (List ℕ)) → length (offset_bytes ts) ≡ 4 * (leng
 unfolding offset_bytes
 offsets_size ts = numbers_size (offsets_from 0 ts) ∙ ap (λ (n : ℕ). 4 * n) (offsets_count 0 ts)
 
-directory_size : (hs : List BlockHead) → length (directory_bytes hs) ≡ 16 * length hs
+directory_size : (hs : List BlockHead) → length (directory_bytes true hs) ≡ 24 * length hs
 unfolding directory_bytes
 directory_size [] = refl
 directory_size (h ∷ hs) = let rest = directory_size hs in omega (arith, rest)
@@ -72,17 +72,17 @@ behind_numbers : (h : Header) (rest : List ℕ) → length (header_bytes h ++ re
 unfolding header_bytes
 behind_numbers h rest = omega arith
 
-pub file_long : (i : Image) → length i.heads ≡ length i.blocks → length (file i) ≡ size_by (header_of_image i)
-unfolding file
+pub file_long : (i : Image) → length i.heads ≡ length i.blocks → length (file i) ≡ size_by (header_of_image true i)
+unfolding file_in entry_size
 file_long i e =
     let w = vocabulary_bytes i.words in
     let o = offset_bytes i.titles in
     let t = title_bytes i.titles in
-    let d = directory_bytes i.heads in
+    let d = directory_bytes true i.heads in
     let b = blocks_bytes i.heads i.blocks in
     omega (
       arith,
-      behind_numbers (header_of_image i) (w ++ (o ++ (t ++ (d ++ b)))),
+      behind_numbers (header_of_image true i) (w ++ (o ++ (t ++ (d ++ b)))),
       length-append w (o ++ (t ++ (d ++ b))),
       length-append o (t ++ (d ++ b)),
       length-append t (d ++ b),

@@ -85,7 +85,7 @@ has_offsets h os bytes is fine =
     let p = or_parts _ _ (tried_none 8 _ fine) in
     record {
       count = ap length is ∙ numbers_count (h.docs + 1) bytes;
-      onward = held_anywhere is_onward (λ o. NUMBER_BYTES) 0 (offsets_at h) None os
+      onward = held_anywhere is_onward (λ o. NUMBER_BYTES) (λ o. NUMBER_BYTES) 0 (offsets_at h) None os
           ∙ all_hold (λ i. is_onward i.last i.value) (laid (λ o. NUMBER_BYTES) (offsets_at h) None os) p.0;
       end = eqb-true _ _ (unless_none _ _ p.1);
     }

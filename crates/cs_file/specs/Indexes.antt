@@ -28,7 +28,7 @@ use Rattle.cs_base.specs.declared.content.scores.Weights.{Weights}
 use Rattle.cs_base.specs.declared.content.limits.TheConstants.{MAX_DOCS, MAX_WORDS, MAX_ROWS}
 use Rattle.cs_model.specs.Weights.{AreWeights}
 use Rattle.cs_model_index.specs.FileRules.{IsIndexFile, is_word, is_onward, is_joined, is_of_one_kind, is_sized, laid, last_value, words_end}
-use Rattle.cs_model_index.specs.Layout.{vocabulary_bytes}
+use Rattle.cs_model_index.specs.Layout.{entry_size, vocabulary_bytes}
 use Rattle.cs_model_index.specs.Numbered.{word_at}
 use Rattle.cs_model_index.specs.Partitions.{is_facet}
 use Rattle.cs_model_index.specs.Sections.{contents_of, titles_at, blocks_at, image_of}
@@ -79,7 +79,8 @@ abbrev pub title_len : IndexView → ℕ → ℕ
 title_len i d = slice_index_or i.offsets (d + 1) 0 - slice_index_or i.offsets d 0
 
 -- the numbers are within their limits, the words are words in order, the offsets go on, and the blocks have all words, each few
--- and of one kind, and as many rows and bytes as they may have; the places are those of the file's layout, and have numbers of 64 bits
+-- and of one kind, and as many rows and bytes as they may have; the places are those of the layout of one of the two
+-- versions, and have numbers of 64 bits; where entries lie doesn't count for joints
 pub record IsIndex (i : IndexView) : Type 0 where
   pub few_docs : i.docs ≤ MAX_DOCS
   pub few_words : length i.words ≤ MAX_WORDS
@@ -97,7 +98,7 @@ pub record IsIndex (i : IndexView) : Type 0 where
   pub sized : list_all is_sized i.heads ≡ true
   pub few_rows : sum_by (λ h. h.rows) i.heads ≤ MAX_ROWS
   pub titles_place : i.titles_at ≡ HEADER_BYTES + length (vocabulary_bytes i.words) + NUMBER_BYTES * (i.docs + 1)
-  pub blocks_place : i.blocks_at ≡ i.titles_at + titles_end i + ENTRY_BYTES * length i.heads
+  pub blocks_place : (two : Bool) × (i.blocks_at ≡ i.titles_at + titles_end i + entry_size two * length i.heads)
   pub small : block_place i (length i.heads) < 2 ^ 63
 
 -- one for each block: the bytes of the blocks before it

@@ -1,8 +1,11 @@
 pub mod CallAnswers
 pub mod Fetching
 pub mod HeaderView
+pub mod ImageRead
+pub mod ImageSteps
 pub mod Indexes
 pub mod Opening
 pub mod Parting
 pub mod Putting
+pub mod ReadImages
 pub mod Writable

@@ -8,8 +8,8 @@
 --   IsHeader h                numbers of a header that are in their ranges
 --   IsHeaderOf b h            the bytes have this header and its size
 --   HasHeader told h          the same of the bytes that a store tells
---   header_stage b, vocabulary_stage b, titles_stage b, directory_stage b, blocks_stage b, parting_stage b
---                             the first broken rule of each stage: 1 to 4, 5 to 7, 8 and 9, 10 to 12, 13 to 17, 18
+--   header_stage b, vocabulary_stage b, titles_stage b, directory_stage b, blocks_stage b, parts_stage b
+--                             the first broken rule of each stage: 1 to 4, 5 to 7, 8 and 9, 10 to 12, 13 to 17, 18 and 19
 --   before xs i               the value before another one
 --   front_word bytes          where the word at the front of bytes ends
 --   HasVocabulary h ws        words by the rules, as the header says
@@ -24,9 +24,12 @@
 --   header_judged bytes size         rules 2 to 4 of the header's bytes
 --   block_broken w at head docs bytes     the first of rules 13 to 17 that the bytes of a block at a place break, with its place in the file
 --   file_words b, offsets_of b, file_titles b, heads_of b, blocks_of b       what is read of the bytes
-use Rattle.std.specs.Prelude.{◌≡◌, ℕ, zero, suc, ◌+◌, ◌-◌, true, All, not, map, slice_index_or, if◌then◌else◌, ◌<◌, ◌≤◌, ◌^◌, ◌==◌, ◌&&◌, List, [], ◌∷◌, length, take, Option, None, Some}
+--   named_head two words entry, named_in two words k bytes, named_heads b       the heads as the entries of the directory name them
+--   entries_of h              where these entries lie
+--   bounds_judged h named parts, parts_judged h ws named parts       rule 19 of blocks, and rules 18 and 19
+use Rattle.std.specs.Prelude.{◌≡◌, ℕ, zero, suc, ◌+◌, ◌-◌, true, All, not, map, slice_index_or, drop, if◌then◌else◌, ◌<◌, ◌≤◌, ◌^◌, ◌==◌, ◌&&◌, ◌||◌, Bool, List, [], ◌∷◌, ◌++◌, length, take, Option, None, Some}
 use Rattle.std.specs.Prelude.{Result, MatchResult}
-use Rattle.std.specs.List.{list_all, position, slice_get, sum_by}
+use Rattle.std.specs.List.{list_all, position, slice_get, sum_by, zip}
 use Rattle.std.specs.List.Sorted.{IsStrictlySortedBy}
 use Rattle.std.specs.Option.{ForSome, option_map, option_or, unwrap_or}
 use Rattle.std.specs.Ordering.{nat_cmp}
@@ -42,15 +45,18 @@ use Rattle.cs_model.specs.First.{unless, first_reason}
 use Rattle.cs_model_index.specs.BlockRules.{broken_at, judged}
 use Rattle.cs_model_index.specs.FileRules.{laid, last_value, words_end, is_joined, is_of_one_kind, is_sized, break_of, is_onward, last_offset_at, tried}
 use Rattle.cs_model_index.specs.FileRules.{field_breaks, is_length, is_word, word_size, follows, header_rules, vocabulary_rules, title_rules, directory_rules}
-use Rattle.cs_model_index.specs.FileRules.{blocks_break, in_file, parting_rules}
-use Rattle.cs_model_index.specs.Layout.{Header, MAGIC, vocabulary_bytes}
+use Rattle.cs_model_index.specs.FileRules.{blocks_break, bound_rules, in_file, is_bound, parting_rules}
+use Rattle.cs_model_index.specs.Layout.{Header, MAGIC, MAGIC2, entry_size, vocabulary_bytes}
 use Rattle.cs_model_index.specs.Numbered.{word_at}
 use Rattle.cs_model_index.specs.Partitions.{is_facet}
-use Rattle.cs_model_index.specs.Sections.{header_of, contents_of, vocabulary_at, offsets_at, titles_at, directory_at, blocks_at, size_by, titles_in}
+use Rattle.cs_model_index.specs.Sections.{header_of, contents_of, vocabulary_at, offsets_at, titles_at, directory_at, blocks_at, size_by, number_at, titles_in}
 use Rattle.cs_model_index.specs.WeightsField.{is_field, weights_of}
 use Rattle.cs_model_index.specs.declared.limits.TheConstants.{NUMBER_BYTES, ENTRY_BYTES, MAX_TARGET}
+use Rattle.cs_file.specs.declared.entries.Entries.{Entries}
 use Rattle.cs_file.specs.declared.fault.OpenFault.{OpenFault}
 use Rattle.cs_file.specs.declared.fault.OpenFault.TheVariants as opens
+use Rattle.cs_file.specs.declared.part.BlockPart.{BlockPart}
+use Rattle.cs_file.specs.Parting.{bounds_of, keeps_part}
 
 -- ---- answers
 -- of a failed read and of want of memory nothing is said
@@ -103,9 +109,34 @@ offsets_of b = (contents_of b).offsets
 unfoldable pub file_titles : List ℕ → List (List ℕ)
 file_titles b = (contents_of b).titles
 
--- the heads of the directory
+-- the heads of the directory, with the bounds of their blocks' rows
 unfoldable pub heads_of : List ℕ → List BlockHead
 heads_of b = (contents_of b).heads
+
+-- what an entry says of a block of these words, in version 2 with the bounds that it names; in version 1 these are 0
+abbrev pub named_head : Bool → List (List ℕ) → List ℕ → BlockHead
+named_head two words entry = record {
+  lo = number_at entry 0;
+  words = number_at entry 4;
+  rows = number_at entry 8;
+  len = number_at entry 12;
+  facet = is_facet (word_at words (number_at entry 0));
+  least = if two then number_at entry 16 else 0;
+  greatest = if two then number_at entry 20 else 0;
+}
+
+-- the same of the next k entries, as many even of no bytes
+unfoldable pub named_in : Bool → List (List ℕ) → ℕ → List ℕ → List BlockHead
+named_in two words zero bytes = []
+named_in two words (suc k) bytes = named_head two words bytes ∷ named_in two words k (drop (entry_size two) bytes)
+
+-- of all entries
+unfoldable pub named_heads : List ℕ → List BlockHead
+named_heads b = named_in (header_of b).two (file_words b) (header_of b).blocks (contents_of b).bytes.directory
+
+-- the place of the first and the bytes of each
+abbrev pub entries_of : Header → Entries
+entries_of h = record { first = directory_at h; size = entry_size h.two }
 
 -- the posts of the blocks
 unfoldable pub blocks_of : List ℕ → List (List Post)
@@ -135,7 +166,8 @@ pub record HasOffsets (h : Header) (os : List ℕ) : Type 0 where
   pub onward : list_all (λ p. is_onward p.last p.value) (laid (λ o. NUMBER_BYTES) 0 None os) ≡ true
   pub end : unwrap_or (last_value os) 0 ≡ h.titles_len
 
--- as many blocks as the header says, with all words, each with few words of one kind, and with as many rows and bytes as it says
+-- as many blocks as the header says, with all words, each with few words of one kind, and with as many rows and bytes as it says; where
+-- their entries lie and what bounds they have doesn't count
 pub record HasHeads (h : Header) (ws : List (List ℕ)) (hs : List BlockHead) : Type 0 where
   pub count : length hs ≡ h.blocks
   pub joined : list_all (λ p. is_joined p.last p.value) (laid (λ h. ENTRY_BYTES) 0 None hs) ≡ true
@@ -180,7 +212,7 @@ header_stage b = first_reason (header_rules b (header_of b))
 -- rules 2 to 4 of the first bytes of a file of some size
 unfoldable pub header_judged : List ℕ → ℕ → Option Broken
 header_judged bytes size =
-    first_reason (tried 2 (unless (bytes_eq (take 8 bytes) MAGIC) 0) ∷ tried 3 (first_reason (field_breaks (header_of bytes)))
+    first_reason (tried 2 (unless (bytes_eq (take 8 bytes) MAGIC || bytes_eq (take 8 bytes) MAGIC2) 0) ∷ tried 3 (first_reason (field_breaks (header_of bytes)))
     ∷ tried 4 (unless (size == size_by (header_of bytes)) size) ∷ [])
 
 -- rules 5 to 7
@@ -212,19 +244,19 @@ directory_stage b = first_reason (directory_rules (contents_of b))
 
 -- where rule 10 is broken by some heads
 unfoldable pub bad_joint : Header → List BlockHead → Option ℕ
-bad_joint h hs = option_or (break_of (λ i. is_joined i.last i.value) (laid (λ h. ENTRY_BYTES) (directory_at h) None hs))
+bad_joint h hs = option_or (break_of (λ i. is_joined i.last i.value) (laid (λ x. entry_size h.two) (directory_at h) None hs))
     (unless (words_end (last_value hs) == h.words) (blocks_at h))
 
 -- where rule 12 is broken by them
 unfoldable pub bad_size : Header → List BlockHead → Option ℕ
-bad_size h hs = option_or (break_of (λ i. is_sized i.value) (laid (λ h. ENTRY_BYTES) (directory_at h) None hs))
+bad_size h hs = option_or (break_of (λ i. is_sized i.value) (laid (λ x. entry_size h.two) (directory_at h) None hs))
     (unless (sum_by (λ h. h.rows) hs == h.rows && sum_by (λ h. h.len) hs == h.blocks_len) (blocks_at h))
 
 -- rules 10 to 12 of heads over some words
 unfoldable pub directory_judged : Header → List (List ℕ) → List BlockHead → Option Broken
 directory_judged h ws hs =
     first_reason (tried 10 (bad_joint h hs)
-    ∷ tried 11 (break_of (λ i. is_of_one_kind ws i.value) (laid (λ h. ENTRY_BYTES) (directory_at h) None hs)) ∷ tried 12 (bad_size h hs) ∷ [])
+    ∷ tried 11 (break_of (λ i. is_of_one_kind ws i.value) (laid (λ x. entry_size h.two) (directory_at h) None hs)) ∷ tried 12 (bad_size h hs) ∷ [])
 
 -- rules 13 to 17
 unfoldable pub blocks_stage : List ℕ → Option Broken
@@ -234,6 +266,18 @@ blocks_stage b = blocks_break (weights_of (header_of b).weights) (header_of b).d
 abbrev pub block_broken : Weights → ℕ → BlockHead → ℕ → List ℕ → Option Broken
 block_broken w at head docs bytes = option_map (in_file at) (judged w head docs bytes)
 
--- rule 18
-unfoldable pub parting_stage : List ℕ → Option Broken
-parting_stage b = first_reason (parting_rules (contents_of b))
+-- rule 18, and behind it rule 19
+unfoldable pub parts_stage : List ℕ → Option Broken
+parts_stage b = first_reason (parting_rules (contents_of b) ++ bound_rules (contents_of b))
+
+-- rule 19 of blocks whose heads the entries name so
+abbrev pub bounds_judged : Header → List BlockHead → List BlockPart → Option Broken
+bounds_judged h named parts =
+    let pairs = zip (map (λ p. p.head) parts) (map bounds_of named) in
+    if h.two then tried 19 (break_of (λ i. is_bound i.value) (laid (λ p. entry_size h.two) (directory_at h) None pairs)) else None
+
+-- rules 18 and 19 of them
+unfoldable pub parts_judged : Header → List (List ℕ) → List BlockHead → List BlockPart → Option Broken
+parts_judged h ws named parts =
+    first_reason (tried 18 (break_of (λ i. keeps_part h.target ws i.value i.next) (laid (λ p. entry_size h.two) (directory_at h) None parts))
+    ∷ bounds_judged h named parts ∷ [])

@@ -3,7 +3,7 @@
 -- Source: this engine's own.
 --
 --   BlockFits p        the posts of a block can be written, and they have as many bytes as its head says
---   CanBeWritten i     each number of the image has room in its file
+--   CanBeWritten i     the image is within the limits of files, and each block goes with its head
 use Rattle.std.specs.Prelude.{◌≡◌, ◌^◌, ◌<◌, ◌≤◌, List, length, All}
 use Rattle.std.specs.List.{sum_by, zip}
 use Rattle.cs_base.specs.declared.content.limits.TheConstants.{MAX_DOCS, MAX_WORDS, MAX_ROWS}

@@ -1,80 +1,105 @@
 //! The directory of an index file: what it says of each block.
-ghost use Rattle.std.specs.Prelude.{◌≡◌, ◌+◌, ◌*◌, ◌≤◌, ◌<◌, ◌^◌, ◌==◌, ◌&&◌, false, length, drop, slice_index_or, IfOk, OnOk, None};
+ghost use Rattle.std.specs.Prelude.{◌≡◌, ◌+◌, ◌*◌, ◌≤◌, ◌<◌, ◌^◌, ◌==◌, ◌&&◌, false, length, drop, slice_index_or, IfOk, OnOk, None, if◌then◌else◌};
 ghost use Rattle.std.specs.List.{sum_by};
 ghost use Rattle.std.specs.Option.{ForSome};
 ghost use Rattle.cs_base.specs.declared.content.limits.TheConstants.{MAX_WORDS};
 ghost use Rattle.cs_model_index.specs.FileRules.{break_of, is_joined, is_of_one_kind, is_sized, laid, last_value, tried, words_end};
-ghost use Rattle.cs_model_index.specs.Sections.{directory_at, head_in, heads_in};
-ghost use Rattle.cs_model_index.specs.declared.limits.TheConstants.{ENTRY_BYTES};
+ghost use Rattle.cs_model_index.specs.Layout.{entry_size};
+ghost use Rattle.cs_model_index.specs.Sections.{directory_at, number_at};
 ghost use Rattle.cs_file.specs.CallAnswers.{is_read_of_open};
 ghost use Rattle.cs_file.specs.HeaderView.{seen_header};
 ghost use Rattle.cs_file.specs.Indexes.{CausedReads};
-ghost use Rattle.cs_file.specs.Opening.{AreBytes, Judges, IsHeader, HasHeader, HasHeads, before, file_words, heads_of};
+ghost use Rattle.cs_file.specs.Opening.{AreBytes, Judges, IsHeader, HasHeader, HasHeads, before, file_words, named_head, named_heads, named_in};
 ghost use Rattle.cs_file.specs.Opening.{bad_joint, bad_size, directory_judged, directory_stage};
 
+use crate::entries::Entries;
 use crate::fault::OpenFault;
 use crate::header::Header;
 use crate::judged::{number_at, tried, unless};
 use crate::kinds::{has_facet, is_of_one_kind};
 use crate::reading::section;
-use cs_base::{BlockHead, Memory, Seq, Store, Word};
-use cs_model_index::ENTRY_BYTES;
+use cs_base::{BlockHead, Memory, Store, Word};
 use std::alloc::Global;
 
-/// Reads the directory of blocks of these words, and tries rules 10 to 12.
+/// Reads the directory of blocks of these words, and tries rules 10 to 12. The bounds of the heads are those that the entries name, in
+/// version 1 zeros.
 pub(crate) fn read_directory<S: Store>(
     alloc: Global,
     store: &mut S,
     header: &Header,
     words: &[Word],
-) -> Result<Seq<BlockHead>, OpenFault>
+) -> Result<Vec<BlockHead>, OpenFault>
     requires ranges { IsHeader (seen_header header.now) }
     requires told { HasHeader (S.bytes store.old) (seen_header header.now) }
     requires words { ForSome (S.bytes store.old) (λ b. words.now ≡ file_words b) }
     requires few { length words.now ≤ MAX_WORDS }
 
     ensures exact { ForSome (S.bytes store.old) (λ b. Judges (directory_stage b) result) }
-    ensures heads { ForSome (S.bytes store.old) (λ b. IfOk result (λ hs. hs ≡ heads_of b)) }
-    ensures ruled { IfOk result (λ hs. HasHeads (seen_header header.now) words.now hs) }
-    ensures small { ForSome (S.bytes store.old) (λ b. OnOk result (AreBytes b (directory_at (seen_header header.now)) (ENTRY_BYTES * header.now.blocks))) }
+    ensures heads { ForSome (S.bytes store.old) (λ b. IfOk result (λ v. v.items ≡ named_heads b)) }
+    ensures ruled { IfOk result (λ v. HasHeads (seen_header header.now) words.now v.items) }
+    ensures small { ForSome (S.bytes store.old) (λ b. OnOk result (AreBytes b (directory_at (seen_header header.now)) (entry_size header.now.two * header.now.blocks))) }
     ensures bytes { S.bytes store.new ≡ S.bytes store.old }
     ensures lent { S.lent store.new ≡ S.lent store.old }
     ensures caused { CausedReads (is_read_of_open result) (S.faults store.old) (S.faults store.new) }
 {
-    let len = ENTRY_BYTES as usize * header.blocks as usize;
+    let len = header.entry_bytes() as usize * header.blocks as usize;
     let bytes = section(alloc, store, header.directory_at(), len)?;
-    let heads = heads(alloc, words, &bytes, header.blocks)?;
+    let heads = heads(alloc, words, &bytes, header)?;
     judge_heads(&heads, header, words)?;
-    Ok(Seq::from_vec(heads))
+    Ok(heads)
 }
 
 // The heads whose entries stand one behind the other.
-fn heads(alloc: Global, words: &[Word], bytes: &[u8], count: u32) -> Result<Vec<BlockHead>, Memory>
-    requires { length bytes.now ≡ ENTRY_BYTES * count }
+fn heads(
+    alloc: Global,
+    words: &[Word],
+    bytes: &[u8],
+    header: &Header,
+) -> Result<Vec<BlockHead>, Memory>
+    requires { length bytes.now ≡ entry_size header.now.two * header.now.blocks }
 
-    ensures { IfOk result (λ v. v.items ≡ heads_in words.now count bytes.now) }
+    ensures { IfOk result (λ v. v.items ≡ named_in header.now.two words.now header.now.blocks bytes.now) }
 {
-    let mut heads = Vec::with_capacity(alloc, count as usize)?;
-    for i in 0..count as usize {
-        heads.push(head_at(words, bytes, ENTRY_BYTES as usize * i))?;
+    let count = header.blocks as usize;
+    let size = header.entry_bytes() as usize;
+    let mut heads = Vec::with_capacity(alloc, count)?;
+    for i in 0..count {
+        heads.push(head_at(words, bytes, size * i, header.two))?;
     }
     Ok(heads)
 }
 
 // The head whose entry stands at a place.
-#[tactic(auto, using(crate::proofs::DirectoryLemmas::head_here))]
-fn head_at(words: &[Word], bytes: &[u8], at: usize) -> BlockHead
-    requires { at + ENTRY_BYTES ≤ length bytes.now }
+fn head_at(words: &[Word], bytes: &[u8], at: usize, two: bool) -> BlockHead
+    requires { at + entry_size two ≤ length bytes.now }
 
-    ensures { result ≡ head_in words.now (drop at bytes.now) }
+    ensures { result ≡ named_head two words.now (drop at bytes.now) }
 {
     let lo = number_at(bytes, at);
+    let (least, greatest) = bounds_at(bytes, at, two);
     BlockHead {
         lo,
         words: number_at(bytes, at + 4),
         rows: number_at(bytes, at + 8),
         len: number_at(bytes, at + 12),
         facet: has_facet(words, lo),
+        least,
+        greatest,
+    }
+}
+
+// The bounds that the entry at a place names.
+#[tactic(auto, unfolding(cs_model_index::specs::Layout::entry_size))]
+fn bounds_at(bytes: &[u8], at: usize, two: bool) -> (u32, u32)
+    requires { at + entry_size two ≤ length bytes.now }
+
+    ensures least { result.0 ≡ (if two then number_at bytes.now (at + 16) else 0) }
+    ensures greatest { result.1 ≡ (if two then number_at bytes.now (at + 20) else 0) }
+{
+    if two {
+        (number_at(bytes, at + 16), number_at(bytes, at + 20))
+    } else {
+        (0, 0)
     }
 }
 
@@ -88,7 +113,7 @@ fn judge_heads(heads: &[BlockHead], header: &Header, words: &[Word]) -> Result<(
     ensures unread { is_read_of_open result ≡ false }
 {
     tried(10, bad_joint(heads, header))?;
-    tried(11, bad_kind(heads, header.directory_at(), words))?;
+    tried(11, bad_kind(heads, header.entries(), words))?;
     tried(12, bad_size(heads, header))
 }
 
@@ -99,7 +124,7 @@ fn bad_joint(heads: &[BlockHead], header: &Header) -> Option<u64>
     ensures { result ≡ bad_joint (seen_header header.now) heads.now }
 {
     let ends = last_end(heads) == u64::from(header.words);
-    bad_start(heads, header.directory_at()).or(unless(ends, header.blocks_at()))
+    bad_start(heads, header.entries()).or(unless(ends, header.blocks_at()))
 }
 
 // Where the words of the last block end, 0 where there is none.
@@ -120,28 +145,18 @@ fn end_of(head: &BlockHead) -> u64
 }
 
 // The place of the first block that has no word, or doesn't begin where the one before ends.
-fn bad_start(heads: &[BlockHead], first: u64) -> Option<u64>
+fn bad_start(heads: &[BlockHead], entries: Entries) -> Option<u64>
     requires few { length heads.now ≤ MAX_WORDS }
-    requires places { first < 2 ^ 40 }
+    requires places { entries.first < 2 ^ 40 }
 
-    ensures { result ≡ break_of (λ i. is_joined i.last i.value) (laid (λ h. ENTRY_BYTES) first None heads.now) }
+    ensures { result ≡ break_of (λ i. is_joined i.last i.value) (laid (λ h. entries.size) entries.first None heads.now) }
 {
     for i in 0..heads.len() {
         if !is_joined(heads, i) {
-            return Some(entry_at(first, i));
+            return Some(entries.place(i));
         }
     }
     None
-}
-
-/// The place of entry `i` of the directory, whose first stands at a place.
-pub(crate) fn entry_at(first: u64, i: usize) -> u64
-    requires few { i < MAX_WORDS }
-    requires places { first < 2 ^ 40 }
-
-    ensures { result ≡ first + ENTRY_BYTES * i }
-{
-    first + u64::from(ENTRY_BYTES) * i as u64
 }
 
 // Whether block `i` begins where the one before ends, and has a word.
@@ -149,7 +164,7 @@ pub(crate) fn entry_at(first: u64, i: usize) -> u64
 fn is_joined(heads: &[BlockHead], i: usize) -> bool
     requires { i < length heads.now }
 
-    ensures { result ≡ is_joined (before heads.now i) (slice_index_or heads.now i (record { lo = 0; words = 0; rows = 0; len = 0; facet = false })) }
+    ensures { result ≡ is_joined (before heads.now i) (slice_index_or heads.now i (record { lo = 0; words = 0; rows = 0; len = 0; facet = false; least = 0; greatest = 0 })) }
 {
     let head = heads[i];
     let end = if i == 0 { 0 } else { end_of(&heads[i - 1]) };
@@ -157,15 +172,15 @@ fn is_joined(heads: &[BlockHead], i: usize) -> bool
 }
 
 // The place of the first block that has too many words, or words of two kinds.
-fn bad_kind(heads: &[BlockHead], first: u64, words: &[Word]) -> Option<u64>
+fn bad_kind(heads: &[BlockHead], entries: Entries, words: &[Word]) -> Option<u64>
     requires few { length heads.now ≤ MAX_WORDS }
-    requires places { first < 2 ^ 40 }
+    requires places { entries.first < 2 ^ 40 }
 
-    ensures { result ≡ break_of (λ i. is_of_one_kind words.now i.value) (laid (λ h. ENTRY_BYTES) first None heads.now) }
+    ensures { result ≡ break_of (λ i. is_of_one_kind words.now i.value) (laid (λ h. entries.size) entries.first None heads.now) }
 {
     for i in 0..heads.len() {
         if !is_of_one_kind(words, &heads[i]) {
-            return Some(entry_at(first, i));
+            return Some(entries.place(i));
         }
     }
     None
@@ -178,7 +193,7 @@ fn bad_size(heads: &[BlockHead], header: &Header) -> Option<u64>
     ensures { result ≡ bad_size (seen_header header.now) heads.now }
 {
     let sums = has_sums(heads, header);
-    bad_shape(heads, header.directory_at()).or(unless(sums, header.blocks_at()))
+    bad_shape(heads, header.entries()).or(unless(sums, header.blocks_at()))
 }
 
 // Whether the rows and the bytes of all blocks are those of the header.
@@ -191,15 +206,15 @@ fn has_sums(heads: &[BlockHead], header: &Header) -> bool
     rows == u64::from(header.rows) && bytes == u64::from(header.blocks_len)
 }
 
-fn bad_shape(heads: &[BlockHead], first: u64) -> Option<u64>
+fn bad_shape(heads: &[BlockHead], entries: Entries) -> Option<u64>
     requires few { length heads.now ≤ MAX_WORDS }
-    requires places { first < 2 ^ 40 }
+    requires places { entries.first < 2 ^ 40 }
 
-    ensures { result ≡ break_of (λ i. is_sized i.value) (laid (λ h. ENTRY_BYTES) first None heads.now) }
+    ensures { result ≡ break_of (λ i. is_sized i.value) (laid (λ h. entries.size) entries.first None heads.now) }
 {
     for i in 0..heads.len() {
         if !is_sized(&heads[i]) {
-            return Some(entry_at(first, i));
+            return Some(entries.place(i));
         }
     }
     None

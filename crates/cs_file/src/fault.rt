@@ -28,7 +28,7 @@ impl From<Memory> for WriteFault {
 pub enum OpenFault {
     /// The bytes are no index file.
     Damaged {
-        /// The first broken rule, from 1 to 18.
+        /// The first broken rule, from 1 to 19.
         rule: u8,
         /// The place at which it is broken, in bytes from the file's first.
         at: u64,
@@ -47,14 +47,14 @@ impl From<Memory> for OpenFault {
     }
 }
 
-/// What reading a block or a title of an opened index answers where it gives none.
+/// What reading a block, a title or the whole image of an opened index answers where it gives none.
 #[derive(Clone, Copy, Debug, PartialEq, Eq, Drop)]
 pub enum FetchFault {
     /// The store failed.
     Read,
     /// The bytes aren't those that were there at opening.
     Changed {
-        /// The first broken rule, from 13 to 17 for a block and 9 for a title.
+        /// The first broken rule, from 13 to 17 for a block and 9 for a title; 18 and 19 come of an image alone.
         rule: u8,
         /// The place at which it is broken, in bytes from the file's first.
         at: u64,

@@ -1,6 +1,7 @@
 //! Reading blocks and titles of an opened index.
-ghost use Rattle.std.specs.Prelude.{◌≡◌, ◌<◌, ◌≤◌, ◌+◌, ◌++◌, ◌^◌, ℕ, List, Option, false, length, Err, IfOk, IfErr, OnOk, OnErr, All};
+ghost use Rattle.std.specs.Prelude.{◌≡◌, ◌<◌, ◌≤◌, ◌+◌, ◌++◌, ◌^◌, ℕ, List, Option, false, true, length, Err, IfOk, IfErr, OnOk, OnErr, All};
 ghost use Rattle.std.specs.Option.{ForSome};
+ghost use Rattle.std.specs.Str.{is_utf8};
 ghost use Rattle.cs_base.specs.declared.content.scores.TheConstants.{MAX_ROW_SCORE};
 ghost use Rattle.cs_base.specs.outside.Causes.{ReadsWithin};
 ghost use Rattle.cs_base.specs.outside.Outside.{part};
@@ -98,6 +99,9 @@ impl Index {
         requires in_range { doc < self.now.docs }
         requires fits { HasAllBlocks (S.bytes store.old) self.now }
 
+        // over every store it is text of the title's length, and over one that tells it is read there
+        ensures long { IfOk result (λ t. length t ≡ title_len self.now doc) }
+        ensures text { IfOk result (λ t. is_utf8 t ≡ true) }
         ensures ok { ForSome (S.bytes store.old) (λ b. IfOk result (λ t. t ≡ part b (title_place self.now doc) (title_len self.now doc))) }
         ensures stood { ForSome (S.bytes store.old) (λ b. StandsFor b self.now → IfOk result (λ t. t ≡ title_in b doc)) }
         ensures store { LeavesStore S.bytes S.lent S.faults self.now (IsChangeOfTitle self.now (S.bytes store.old) doc) store.old store.new result }

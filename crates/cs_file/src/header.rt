@@ -1,29 +1,37 @@
 //! The header of an index file.
-ghost use Rattle.std.specs.Prelude.{◌≡◌, ◌+◌, ◌<◌, ◌≤◌, ◌^◌, false, length, IfOk, OnOk};
+ghost use Rattle.std.specs.Prelude.{◌≡◌, ◌+◌, ◌<◌, ◌≤◌, ◌^◌, ◌||◌, false, length, take, IfOk, OnOk};
 ghost use Rattle.std.specs.Option.{ForSome};
+ghost use Rattle.std.specs.Str.{bytes_eq};
 ghost use Rattle.cs_model.specs.First.{first_reason};
 ghost use Rattle.cs_model_index.specs.FileRules.{field_breaks};
 ghost use Rattle.cs_model_index.specs.Sections.{number_at, header_of, offsets_at, titles_at, directory_at, blocks_at, size_by};
-ghost use Rattle.cs_model_index.specs.declared.limits.TheConstants.{HEADER_BYTES};
+ghost use Rattle.cs_model_index.specs.Layout.{MAGIC, MAGIC2, entry_size};
+ghost use Rattle.cs_model_index.specs.declared.limits.TheConstants.{BOUNDED_ENTRY_BYTES, HEADER_BYTES};
 ghost use Rattle.cs_file.specs.CallAnswers.{is_read_of_open};
 ghost use Rattle.cs_file.specs.HeaderView.{seen_header};
 ghost use Rattle.cs_file.specs.Indexes.{CausedReads};
-ghost use Rattle.cs_file.specs.Opening.{AreBytes, Judges, IsHeader, HasHeader, header_stage, header_judged};
+ghost use Rattle.cs_file.specs.Opening.{AreBytes, Judges, IsHeader, HasHeader, entries_of, header_stage, header_judged};
 
+use crate::entries::Entries;
 use crate::fault::OpenFault;
 use crate::judged::{number_at, tried, unless};
 use crate::reading::section;
 use crate::weights::is_field;
 use cs_base::{MAX_DOCS, MAX_ROWS, MAX_WORDS, Store};
-use cs_model_index::{ENTRY_BYTES, HEADER_BYTES, MAX_TARGET, NUMBER_BYTES};
+use cs_model_index::{BOUNDED_ENTRY_BYTES, ENTRY_BYTES, HEADER_BYTES, MAX_TARGET, NUMBER_BYTES};
 use std::alloc::Global;
 
-/// The first bytes of each index file.
+/// The first bytes of an index file of version 1.
 pub(crate) const MAGIC: [u8; 8] = *b"HYBIDX1\n";
 
-/// The numbers of a header.
+/// The first bytes of one of version 2.
+pub(crate) const MAGIC2: [u8; 8] = *b"HYBIDX2\n";
+
+/// The version of a file, and the numbers of its header.
 #[derive(Clone, Copy, Drop)]
 pub(crate) struct Header {
+    /// Whether it is of version 2.
+    pub(crate) two: bool,
     /// How many documents there are.
     pub(crate) docs: u32,
     /// How many words there are.
@@ -45,6 +53,30 @@ pub(crate) struct Header {
 }
 
 impl Header {
+    /// How many bytes the directory has for a block.
+    #[tactic(auto, unfolding(cs_model_index::specs::Layout::entry_size))]
+    pub(crate) fn entry_bytes(&self) -> u32
+        ensures value { result ≡ entry_size self.now.two }
+        ensures small { result ≤ BOUNDED_ENTRY_BYTES }
+    {
+        if self.two {
+            BOUNDED_ENTRY_BYTES
+        } else {
+            ENTRY_BYTES
+        }
+    }
+
+    /// Where the entries of the directory lie.
+    pub(crate) fn entries(&self) -> Entries
+        ensures value { result ≡ entries_of (seen_header self.now) }
+        ensures small { result.first < 2 ^ 36 }
+    {
+        Entries {
+            first: self.directory_at(),
+            size: self.entry_bytes(),
+        }
+    }
+
     /// The place of the title offsets.
     pub(crate) fn offsets_at(&self) -> u64
         ensures value { result ≡ offsets_at (seen_header self.now) }
@@ -74,7 +106,7 @@ impl Header {
         ensures value { result ≡ blocks_at (seen_header self.now) }
         ensures small { result < 2 ^ 38 }
     {
-        self.directory_at() + u64::from(ENTRY_BYTES) * u64::from(self.blocks)
+        self.directory_at() + u64::from(self.entry_bytes()) * u64::from(self.blocks)
     }
 
     /// The size of the file.
@@ -114,14 +146,23 @@ fn judge_header(bytes: &[u8], size: u64) -> Result<Header, OpenFault>
     ensures ranges { IfOk result (λ h. IsHeader (seen_header h)) }
     ensures unread { is_read_of_open result ≡ false }
 {
-    tried(2, unless(bytes[..MAGIC.len()] == MAGIC[..], 0))?;
+    tried(2, unless(is_known(bytes), 0))?;
     let header = header_in(bytes);
     tried(3, broken_field(&header))?;
     tried(4, unless(size == header.size(), size))?;
     Ok(header)
 }
 
-// The numbers of a header, whatever they are.
+// Whether the first bytes are those of one of the versions.
+fn is_known(bytes: &[u8]) -> bool
+    requires { length bytes.now ≡ HEADER_BYTES }
+
+    ensures { result ≡ (bytes_eq (take 8 bytes.now) MAGIC || bytes_eq (take 8 bytes.now) MAGIC2) }
+{
+    bytes[..MAGIC.len()] == MAGIC[..] || bytes[..MAGIC2.len()] == MAGIC2[..]
+}
+
+// The version and the numbers of a header, whatever they are.
 fn header_in(bytes: &[u8]) -> Header
     requires { length bytes.now ≡ HEADER_BYTES }
 
@@ -129,6 +170,7 @@ fn header_in(bytes: &[u8]) -> Header
     ensures small { (result.vocabulary_len < 2 ^ 32) × (result.titles_len < 2 ^ 32) × (result.blocks_len < 2 ^ 32) }
 {
     Header {
+        two: bytes[..MAGIC2.len()] == MAGIC2[..],
         docs: number_at(bytes, 8),
         words: number_at(bytes, 12),
         rows: number_at(bytes, 16),

@@ -11,7 +11,7 @@ pub struct Image {
     pub titles: Seq<Text>,
     /// The words by number, from 0.
     pub words: Vocab,
-    /// What the directory says of each block, in the order of the file.
+    /// The head of each block, in the order of the file.
     pub heads: Seq<BlockHead>,
     /// The posts of each block.
     pub blocks: Seq<Cols>,

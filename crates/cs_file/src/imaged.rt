@@ -1,5 +1,5 @@
-//! The index of an image, and the size of its file.
-ghost use Rattle.std.specs.Prelude.{◌≡◌, ◌<◌, ◌^◌, length, IfOk, Some, All};
+//! The index of an image, and the size of its file, which is of version 2.
+ghost use Rattle.std.specs.Prelude.{◌≡◌, ◌<◌, ◌^◌, true, length, IfOk, Some, All};
 ghost use Rattle.cs_model_index.specs.FileRules.{IsIndexFile};
 ghost use Rattle.cs_model_index.specs.Layout.{file, header_of_image, offsets_from, title_bytes};
 ghost use Rattle.cs_model_index.specs.Sections.{image_of};
@@ -66,11 +66,12 @@ pub fn index_of(alloc: Global, image: Image) -> Result<Index, Memory>
 fn header_of(image: &Image) -> Header
     requires { CanBeWritten image.now }
 
-    ensures numbers { seen_header result ≡ header_of_image image.now }
+    ensures numbers { seen_header result ≡ header_of_image true image.now }
     ensures small { result.vocabulary_len < 2 ^ 32 }
 {
     let numbers = numbers_of(image);
     Header {
+        two: true,
         docs: numbers[0],
         words: numbers[1],
         rows: numbers[2],

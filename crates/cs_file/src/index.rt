@@ -15,7 +15,7 @@ pub struct Index {
     pub words: Vocab,
     /// Where each title begins among the titles' bytes, and where the last one ends.
     pub offsets: Seq<u32>,
-    /// What the directory says of each block.
+    /// The head of each block.
     pub heads: Seq<BlockHead>,
     /// The most rows of a block of several words.
     pub target: u32,

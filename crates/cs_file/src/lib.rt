@@ -1,12 +1,13 @@
 //! The index file: images of collections, their bytes, and an index that is opened over a store.
 //!
-//! What an image, its file and the eighteen rules are stands in `cs_model_index`; in words it stands in
+//! What an image, its file and the nineteen rules are stands in `cs_model_index`; in words it stands in
 //! `docs/INDEX_FILE.md`. An `Index` holds words, offsets and heads, and no posting: blocks and titles are read
-//! from the store when they are asked for.
+//! from the store when they are asked for. `laws` has what holds of images that an index reads.
 #![tactic(auto)]
 
 mod blocks;
 mod directory;
+mod entries;
 mod fault;
 mod fetched;
 mod fetching;
@@ -16,12 +17,14 @@ mod imaged;
 mod index;
 mod judged;
 mod kinds;
+pub mod laws;
 mod opening;
 mod part;
 mod parts;
 mod places;
 mod postings;
 mod putting;
+mod read_image;
 mod reading;
 mod sizes;
 mod sought;

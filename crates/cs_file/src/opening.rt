@@ -1,21 +1,25 @@
 //! Opening an index file.
-ghost use Rattle.std.specs.Prelude.{◌≡◌, IfOk, IfErr};
+ghost use Rattle.std.specs.Prelude.{◌≡◌, ◌≤◌, false, length, IfOk, IfErr};
 ghost use Rattle.std.specs.Option.{ForSome};
+ghost use Rattle.cs_base.specs.declared.content.limits.TheConstants.{MAX_WORDS};
 ghost use Rattle.cs_file.specs.CallAnswers.{IsDamageOf, is_read_of_open};
+ghost use Rattle.cs_file.specs.HeaderView.{seen_header};
 ghost use Rattle.cs_file.specs.Indexes.{StandsFor, HasAllBlocks, CausedReads};
+ghost use Rattle.cs_file.specs.Opening.{Judges, bounds_judged, parts_judged};
 
 use crate::directory::read_directory;
 use crate::fault::OpenFault;
-use crate::header::read_header;
+use crate::header::{Header, read_header};
 use crate::index::Index;
 use crate::judged::tried;
-use crate::parts::bad_part;
+use crate::part::BlockPart;
+use crate::parts::{bad_bound, bad_part, heads_of};
 use crate::places::places_of;
 use crate::postings::read_blocks;
 use crate::titles::read_titles;
 use crate::vocabulary::read_vocabulary;
 use crate::weights::weights_of;
-use cs_base::Store;
+use cs_base::{BlockHead, Store, Word};
 use cs_vocab::Vocab;
 use std::alloc::Global;
 
@@ -35,15 +39,10 @@ pub fn open_index<S: Store>(alloc: Global, store: &mut S) -> Result<Index, OpenF
     let header = read_header(alloc, store)?;
     let words = read_vocabulary(alloc, store, &header)?;
     let offsets = read_titles(alloc, store, &header)?;
-    let heads = read_directory(alloc, store, &header, words.as_slice())?;
-    let parts = read_blocks(alloc, store, &header, heads.as_slice())?;
-    let place = bad_part(
-        words.as_slice(),
-        &parts,
-        header.target,
-        header.directory_at(),
-    );
-    tried(18, place)?;
+    let named = read_directory(alloc, store, &header, words.as_slice())?;
+    let parts = read_blocks(alloc, store, &header, &named)?;
+    judge_parts(&header, words.as_slice(), &named, &parts)?;
+    let heads = heads_of(alloc, &parts)?;
     let places = places_of(alloc, heads.as_slice())?;
     Ok(Index {
         docs: header.docs,
@@ -56,4 +55,36 @@ pub fn open_index<S: Store>(alloc: Global, store: &mut S) -> Result<Index, OpenF
         blocks_at: header.blocks_at(),
         places,
     })
+}
+
+// Tries rules 18 and 19 on blocks of these words whose heads the directory names so.
+fn judge_parts(
+    header: &Header,
+    words: &[Word],
+    named: &[BlockHead],
+    parts: &[BlockPart],
+) -> Result<(), OpenFault>
+    requires few { length parts.now ≤ MAX_WORDS }
+    requires count { length named.now ≡ length parts.now }
+
+    ensures exact { Judges (parts_judged (seen_header header.now) words.now named.now parts.now) result }
+    ensures unread { is_read_of_open result ≡ false }
+{
+    let place = bad_part(words, parts, header.target, header.entries());
+    tried(18, place)?;
+    judge_bounds(header, named, parts)
+}
+
+// Tries rule 19, where the directory names bounds.
+fn judge_bounds(header: &Header, named: &[BlockHead], parts: &[BlockPart]) -> Result<(), OpenFault>
+    requires few { length parts.now ≤ MAX_WORDS }
+    requires count { length named.now ≡ length parts.now }
+
+    ensures exact { Judges (bounds_judged (seen_header header.now) named.now parts.now) result }
+    ensures unread { is_read_of_open result ≡ false }
+{
+    if header.two {
+        return tried(19, bad_bound(parts, named, header.entries()));
+    }
+    Ok(())
 }

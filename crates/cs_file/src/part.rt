@@ -1,10 +1,10 @@
-//! Blocks as rule 18 speaks of them.
+//! Blocks as rules 18 and 19 speak of them.
 use cs_base::BlockHead;
 
-/// What rule 18 asks of a block.
+/// What rules 18 and 19 ask of a block.
 #[derive(Clone, Copy, Drop)]
 pub(crate) struct BlockPart {
-    /// What the directory says of it.
+    /// What the directory says of it, with the bounds of its rows.
     pub(crate) head: BlockHead,
     /// Whether each of its words has a row.
     pub(crate) whole: bool,

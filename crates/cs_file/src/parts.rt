@@ -1,35 +1,71 @@
-//! What rule 18 asks of blocks, and that rule.
-ghost use Rattle.std.specs.Prelude.{◌≡◌, ◌+◌, ◌*◌, ◌≤◌, ◌<◌, ◌^◌, ◌==◌, length, count_by, slice_index_or, IfOk, None, All};
-ghost use Rattle.std.specs.List.{list_all, list_any, range_with_len, slice_get};
+//! What rules 18 and 19 ask of blocks, and these rules.
+ghost use Rattle.std.specs.Prelude.{◌≡◌, ◌+◌, ◌≤◌, ◌<◌, ◌^◌, ◌==◌, length, count_by, map, slice_index_or, IfOk, None, All};
+ghost use Rattle.std.specs.List.{list_all, list_any, range_with_len, slice_get, zip};
+ghost use Rattle.std.specs.Option.{unwrap_or};
 ghost use Rattle.cs_base.specs.declared.content.limits.TheConstants.{MAX_ROWS, MAX_WORDS};
-ghost use Rattle.cs_model_index.specs.FileRules.{break_of, laid};
+ghost use Rattle.cs_model_index.specs.FileRules.{break_of, is_bound, laid, last_value};
 ghost use Rattle.cs_model_index.specs.Partitions.{is_full, is_light};
-ghost use Rattle.cs_model_index.specs.declared.limits.TheConstants.{ENTRY_BYTES};
-ghost use Rattle.cs_file.specs.Parting.{HasMarks, is_closed_by, keeps_part, no_part};
+ghost use Rattle.cs_file.specs.Parting.{HasMarks, bounded_by, bounds_of, is_closed_by, keeps_part, no_part};
 
-use crate::directory::entry_at;
+use crate::entries::Entries;
 use crate::kinds::are_alike;
 use crate::part::BlockPart;
 use crate::reading::zeros;
-use cs_base::{BlockHead, Memory, Word};
+use cs_base::{BlockHead, Memory, Seq, Word};
 use cs_model_index::MAX_BLOCK_WORDS;
 use std::alloc::Global;
 
-/// What rule 18 asks of a block whose rows have these words.
-pub(crate) fn part_of(alloc: Global, head: &BlockHead, words: &[u32]) -> Result<BlockPart, Memory>
+/// What rules 18 and 19 ask of a block whose rows have these documents and words.
+pub(crate) fn part_of(
+    alloc: Global,
+    head: &BlockHead,
+    docs: &[u32],
+    words: &[u32],
+) -> Result<BlockPart, Memory>
     requires few { length words.now ≤ MAX_ROWS }
     requires within { All (λ w. (head.now.lo ≤ w) × (w < head.now.lo + head.now.words)) words.now }
 
-    ensures head { IfOk result (λ p. p.head ≡ head.now) }
+    ensures head { IfOk result (λ p. p.head ≡ bounded_by head.now docs.now) }
     ensures whole { IfOk result (λ p. p.whole ≡ list_all (λ n. list_any (λ w. w == n) words.now) (range_with_len head.now.lo head.now.words)) }
     ensures first { IfOk result (λ p. p.first ≡ count_by (λ w. w == head.now.lo) words.now) }
 {
     let marks = marks_of(alloc, words, head.lo, head.words)?;
     Ok(BlockPart {
-        head: *head,
+        head: bounded_by(head, docs),
         whole: are_marked(&marks),
         first: count_of(words, head.lo),
     })
+}
+
+// A block's head with the bounds of rows that have these documents.
+fn bounded_by(head: &BlockHead, docs: &[u32]) -> BlockHead
+    ensures { result ≡ bounded_by head.now docs.now }
+{
+    BlockHead {
+        least: first_of(docs),
+        greatest: last_of(docs),
+        ..*head
+    }
+}
+
+// The first document, 0 where there is none.
+fn first_of(docs: &[u32]) -> u32
+    ensures { result ≡ unwrap_or (slice_get docs.now 0) 0 }
+{
+    match docs.first() {
+        Some(doc) => *doc,
+        None => 0,
+    }
+}
+
+// The last document, 0 where there is none.
+fn last_of(docs: &[u32]) -> u32
+    ensures { result ≡ unwrap_or (last_value docs.now) 0 }
+{
+    match docs.last() {
+        Some(doc) => *doc,
+        None => 0,
+    }
 }
 
 // A mark for each of so many words from `lo` on, 1 where it is one of these.
@@ -60,15 +96,20 @@ fn count_of(words: &[u32], n: u32) -> u32
 }
 
 /// The place of the first block that isn't as long as it may be, or has a word without a row.
-pub(crate) fn bad_part(words: &[Word], parts: &[BlockPart], target: u32, first: u64) -> Option<u64>
+pub(crate) fn bad_part(
+    words: &[Word],
+    parts: &[BlockPart],
+    target: u32,
+    entries: Entries,
+) -> Option<u64>
     requires few { length parts.now ≤ MAX_WORDS }
-    requires places { first < 2 ^ 40 }
+    requires places { entries.first < 2 ^ 40 }
 
-    ensures { result ≡ break_of (λ i. keeps_part target words.now i.value i.next) (laid (λ p. ENTRY_BYTES) first None parts.now) }
+    ensures { result ≡ break_of (λ i. keeps_part target words.now i.value i.next) (laid (λ p. entries.size) entries.first None parts.now) }
 {
     for i in 0..parts.len() {
         if !keeps_part(words, parts, i, target) {
-            return Some(entry_at(first, i));
+            return Some(entries.place(i));
         }
     }
     None
@@ -109,4 +150,38 @@ fn is_full(part: &BlockPart, more: u32, target: u32) -> bool
 {
     MAX_BLOCK_WORDS <= part.head.words
         || u64::from(target) < u64::from(part.head.rows) + u64::from(more)
+}
+
+/// The place of the first block whose bounds aren't those of the head that goes with it.
+pub(crate) fn bad_bound(parts: &[BlockPart], heads: &[BlockHead], entries: Entries) -> Option<u64>
+    requires few { length parts.now ≤ MAX_WORDS }
+    requires count { length heads.now ≡ length parts.now }
+    requires places { entries.first < 2 ^ 40 }
+
+    ensures { result ≡ break_of (λ i. is_bound i.value) (laid (λ p. entries.size) entries.first None (zip (map (λ p. p.head) parts.now) (map bounds_of heads.now))) }
+{
+    for i in 0..parts.len() {
+        if !is_bound(&parts[i].head, &heads[i]) {
+            return Some(entries.place(i));
+        }
+    }
+    None
+}
+
+// Whether two heads have the same bounds.
+fn is_bound(head: &BlockHead, named: &BlockHead) -> bool
+    ensures { result ≡ is_bound (head.now, bounds_of named.now) }
+{
+    head.least == named.least && head.greatest == named.greatest
+}
+
+/// The heads of parts.
+pub(crate) fn heads_of(alloc: Global, parts: &[BlockPart]) -> Result<Seq<BlockHead>, Memory>
+    ensures { IfOk result (λ hs. hs ≡ map (λ p. p.head) parts.now) }
+{
+    let mut heads = Vec::with_capacity(alloc, parts.len())?;
+    for part in parts {
+        heads.push(part.head)?;
+    }
+    Ok(Seq::from_vec(heads))
 }

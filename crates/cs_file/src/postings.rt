@@ -1,5 +1,5 @@
 //! The blocks of an index file.
-ghost use Rattle.std.specs.Prelude.{◌≡◌, ◌+◌, ◌≤◌, ◌<◌, ◌^◌, ◌++◌, ◌∷◌, [], All, false, length, IfOk, OnOk};
+ghost use Rattle.std.specs.Prelude.{◌≡◌, ◌+◌, ◌≤◌, ◌<◌, ◌^◌, ◌++◌, ◌∷◌, [], All, false, length, map, IfOk, OnOk};
 ghost use Rattle.std.specs.List.{sum_by};
 ghost use Rattle.std.specs.Option.{ForSome};
 ghost use Rattle.cs_base.specs.outside.Outside.{part};
@@ -10,8 +10,8 @@ ghost use Rattle.cs_model_index.specs.Sections.{blocks_at};
 ghost use Rattle.cs_file.specs.CallAnswers.{is_read_of_open};
 ghost use Rattle.cs_file.specs.HeaderView.{seen_header};
 ghost use Rattle.cs_file.specs.Indexes.{CausedReads};
-ghost use Rattle.cs_file.specs.Opening.{AreBytes, Judges, IsHeader, HasHeader, block_broken, blocks_of, blocks_stage, heads_of};
-ghost use Rattle.cs_file.specs.Parting.{part_read, parts_by};
+ghost use Rattle.cs_file.specs.Opening.{AreBytes, Judges, IsHeader, HasHeader, block_broken, blocks_of, blocks_stage, heads_of, named_heads};
+ghost use Rattle.cs_file.specs.Parting.{bare, part_read, parts_by};
 
 use crate::fault::OpenFault;
 use crate::header::Header;
@@ -24,7 +24,7 @@ use cs_block::{BlockFault, decode};
 use cs_cols::Cols;
 use std::alloc::Global;
 
-/// Reads the blocks one by one, tries rules 13 to 17, and says what rule 18 asks of them.
+/// Reads the blocks one by one, tries rules 13 to 17, and says what rules 18 and 19 ask of them.
 pub(crate) fn read_blocks<S: Store>(
     alloc: Global,
     store: &mut S,
@@ -33,15 +33,15 @@ pub(crate) fn read_blocks<S: Store>(
 ) -> Result<Vec<BlockPart>, OpenFault>
     requires ranges { IsHeader (seen_header header.now) }
     requires told { HasHeader (S.bytes store.old) (seen_header header.now) }
-    requires heads { ForSome (S.bytes store.old) (λ b. heads.now ≡ heads_of b) }
+    requires heads { ForSome (S.bytes store.old) (λ b. heads.now ≡ named_heads b) }
     requires shaped { All (λ h. IsShaped h h.len) heads.now }
     requires bytes { sum_by (λ h. h.len) heads.now ≡ header.now.blocks_len }
     requires few { length heads.now ≤ MAX_WORDS }
     requires rows { All (λ h. h.rows ≤ MAX_ROWS) heads.now }
 
     ensures exact { ForSome (S.bytes store.old) (λ b. Judges (blocks_stage b) result) }
-    ensures parts { ForSome (S.bytes store.old) (λ b. IfOk result (λ v. v.items ≡ parts_by heads.now (blocks_of b))) }
-    ensures count { IfOk result (λ v. length v.items ≡ length heads.now) }
+    ensures parts { ForSome (S.bytes store.old) (λ b. IfOk result (λ v. v.items ≡ parts_by (heads_of b) (blocks_of b))) }
+    ensures bare { IfOk result (λ v. map (λ p. bare p.head) v.items ≡ map bare heads.now) }
     ensures small { ForSome (S.bytes store.old) (λ b. OnOk result (AreBytes b (blocks_at (seen_header header.now)) header.now.blocks_len)) }
     ensures bytes { S.bytes store.new ≡ S.bytes store.old }
     ensures lent { S.lent store.new ≡ S.lent store.old }
@@ -89,6 +89,7 @@ fn read_block<S: Store>(
 
     ensures exact { ForSome (S.bytes store.old) (λ b. Judges (block_broken weights at head.now docs (part b at head.now.len)) result) }
     ensures part { ForSome (S.bytes store.old) (λ b. IfOk result (λ p. p ≡ part_read head.now (part b at head.now.len))) }
+    ensures bare { IfOk result (λ p. bare p.head ≡ bare head.now) }
     ensures small { ForSome (S.bytes store.old) (λ b. OnOk result (AreBytes b at head.now.len)) }
     ensures bytes { S.bytes store.new ≡ S.bytes store.old }
     ensures lent { S.lent store.new ≡ S.lent store.old }
@@ -114,12 +115,13 @@ fn judge_block(
 
     ensures exact { Judges (block_broken weights at head.now docs bytes.now) result }
     ensures part { IfOk result (λ p. p ≡ part_read head.now bytes.now) }
+    ensures bare { IfOk result (λ p. bare p.head ≡ bare head.now) }
     ensures unread { is_read_of_open result ≡ false }
 {
     let mut rows = Cols::new(alloc);
     match decode(bytes, head, docs, weights, &mut rows) {
         Ok(()) => {
-            let part = part_of(alloc, head, rows.words())?;
+            let part = part_of(alloc, head, rows.docs(), rows.words())?;
             Ok(part)
         }
         Err(BlockFault::Memory) => Err(OpenFault::Memory),

@@ -1,5 +1,5 @@
 //! The numbers of an index file's header.
-ghost use Rattle.std.specs.Prelude.{◌≡◌, ◌<◌, ◌≤◌, ◌^◌, length, map};
+ghost use Rattle.std.specs.Prelude.{◌≡◌, ◌<◌, ◌≤◌, ◌^◌, true, length, map};
 ghost use Rattle.std.specs.List.{sum_by};
 ghost use Rattle.cs_base.specs.declared.content.limits.TheConstants.{MAX_WORDS};
 ghost use Rattle.cs_model_index.specs.Layout.{Header, header_numbers, header_of_image, vocabulary_bytes, title_bytes};
@@ -15,7 +15,7 @@ use cs_vocab::Vocab;
 pub(crate) fn numbers_of(image: &Image) -> [u32; 9]
     requires { CanBeWritten image.now }
 
-    ensures { result ≡ header_numbers (header_of_image image.now) }
+    ensures { result ≡ header_numbers (header_of_image true image.now) }
 {
     [
         image.titles.len() as u32,

@@ -107,8 +107,8 @@ fn is_step(before: u32, offset: u32) -> bool
     before <= offset && u64::from(offset) <= u64::from(before) + MAX_LINE_BYTES as u64
 }
 
-// The last offset, 0 where there is none.
-fn last(offsets: &[u32]) -> u32
+/// The last offset, 0 where there is none.
+pub(crate) fn last(offsets: &[u32]) -> u32
     ensures { result ≡ unwrap_or (last_value offsets.now) 0 }
 {
     match offsets.last() {

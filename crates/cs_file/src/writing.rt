@@ -1,5 +1,5 @@
 //! Writing an index file.
-ghost use Rattle.std.specs.Prelude.{◌≡◌, ◌∷◌, ◌++◌, ◌≤◌, ◌<◌, ◌^◌, OnOk, OnErr, length, map, All};
+ghost use Rattle.std.specs.Prelude.{◌≡◌, ◌∷◌, ◌++◌, ◌≤◌, ◌<◌, ◌^◌, true, OnOk, OnErr, length, map, All};
 ghost use Rattle.std.specs.List.{flat_map, zip};
 ghost use Rattle.cs_base.specs.outside.Outside.{Grew, GrewByPrefix};
 ghost use Rattle.cs_model_index.specs.Blocks.{AreWritable, block_bytes};
@@ -11,7 +11,7 @@ ghost use Rattle.cs_file.specs.Putting.{HasPut};
 ghost use Rattle.cs_file.specs.Writable.{CanBeWritten, BlockFits};
 
 use crate::fault::WriteFault;
-use crate::header::MAGIC;
+use crate::header::MAGIC2;
 use crate::image::Image;
 use crate::putting::{put_bytes, put_full, put_pieces};
 use crate::sizes::numbers_of;
@@ -21,7 +21,7 @@ use cs_cols::Cols;
 use cs_vocab::Vocab;
 use std::alloc::Global;
 
-/// Puts the bytes of an image's index file, piece by piece. Where it doesn't put all of them, it put some first ones.
+/// Puts the bytes of an image's index file, of version 2, piece by piece. Where it doesn't put all of them, it put some first ones.
 ///
 /// A put has at most 65,536 bytes. Beside them no more than the bytes of one block or one title are held.
 pub fn write_index<S: Sink>(alloc: Global, image: &Image, out: &mut S) -> Result<(), WriteFault>
@@ -59,12 +59,12 @@ fn put_sections<S: Sink>(image: &Image, held: &mut Vec<u8>, out: &mut S) -> Resu
 fn put_header<S: Sink>(image: &Image, held: &mut Vec<u8>, out: &mut S) -> Result<(), WriteFault>
     requires { CanBeWritten image.now }
 
-    ensures ok { OnOk result (HasPut (S.written out.old) held.old.items (header_bytes (header_of_image image.now)) (S.written out.new) held.new.items) }
-    ensures err { OnErr result (GrewByPrefix (S.written out.old) (held.old.items ++ header_bytes (header_of_image image.now)) (S.written out.new)) }
+    ensures ok { OnOk result (HasPut (S.written out.old) held.old.items (header_bytes (header_of_image true image.now)) (S.written out.new) held.new.items) }
+    ensures err { OnErr result (GrewByPrefix (S.written out.old) (held.old.items ++ header_bytes (header_of_image true image.now)) (S.written out.new)) }
     ensures lent { S.lent out.new ≡ S.lent out.old }
     ensures caused { CausedReads (is_sink result) (S.faults out.old) (S.faults out.new) }
 {
-    put_bytes(&MAGIC, held, out)?;
+    put_bytes(&MAGIC2, held, out)?;
     put_numbers(&numbers_of(image), held, out)
 }
 
@@ -144,13 +144,24 @@ fn put_directory<S: Sink>(
     held: &mut Vec<u8>,
     out: &mut S,
 ) -> Result<(), WriteFault>
-    ensures ok { OnOk result (HasPut (S.written out.old) held.old.items (directory_bytes heads.now) (S.written out.new) held.new.items) }
-    ensures err { OnErr result (GrewByPrefix (S.written out.old) (held.old.items ++ directory_bytes heads.now) (S.written out.new)) }
+    ensures ok { OnOk result (HasPut (S.written out.old) held.old.items (directory_bytes true heads.now) (S.written out.new) held.new.items) }
+    ensures err { OnErr result (GrewByPrefix (S.written out.old) (held.old.items ++ directory_bytes true heads.now) (S.written out.new)) }
     ensures lent { S.lent out.new ≡ S.lent out.old }
     ensures caused { CausedReads (is_sink result) (S.faults out.old) (S.faults out.new) }
 {
     for head in heads {
-        put_numbers(&[head.lo, head.words, head.rows, head.len], held, out)?;
+        put_numbers(
+            &[
+                head.lo,
+                head.words,
+                head.rows,
+                head.len,
+                head.least,
+                head.greatest,
+            ],
+            held,
+            out,
+        )?;
     }
     Ok(())
 }

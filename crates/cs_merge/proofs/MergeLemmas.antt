@@ -11,19 +11,18 @@
 --   words_of_rows       the words of both vocabularies are those of the rows
 --   once                no row stands twice
 --   keep_limits         titles, words and rows of both keep the limits of index files
-use Rattle.std.proofs.Common.{◌≡◌, ℕ, ◌+◌, ◌≤◌, ◌<◌, ◌^◌, ◌||◌, Bool, true, false, cond, List, [], ◌∷◌, ◌++◌, length, get_or, map, refl, sym, ap, ap₂, subst, ◌∙◌, arith, length-append}
-use Rattle.std.specs.Prelude.{All, Some, ◌&&◌, ◌==◌}
+use Rattle.std.proofs.Common.{◌≡◌, ℕ, ◌+◌, ◌≤◌, ◌<◌, ◌^◌, ◌||◌, Bool, true, List, [], ◌∷◌, ◌++◌, length, get_or, map, refl, sym, ap, ap₂, subst, ◌∙◌, arith, length-append}
+use Rattle.std.specs.Prelude.{All, ◌&&◌, ◌==◌}
 use Rattle.std.specs.List.{AllByRecursion, enumerate_from, list_any}
 use Rattle.std.specs.List.Sorted.{IsStrictlySortedBy}
-use Rattle.std.specs.Option.{is_some}
 use Rattle.std.specs.Ordering.{eq_by_cmp, nat_cmp, ordering_then}
 use Rattle.std.specs.Cmp.Lexicographic.{slice_cmp}
 use Rattle.std.specs.Str.{IsUtf8, bytes_eq}
 use Rattle.std.specs.declared.cmp.Ordering.TheVariants.{Less}
-use Rattle.std.specs.FinMap.{contains_key, entries, find, from_entries, get-from_entries, len, len-entries}
+use Rattle.std.specs.FinMap.{contains_key, entries, from_entries, len, len-entries}
 use Rattle.std.proofs.lemmas.Bool.{and_parts, eqb-true}
 use Rattle.std.proofs.lemmas.Bool.Decides.{nat_tests}
-use Rattle.std.proofs.lemmas.Cmp.{nat_cmp_total, nat_list_cmp_total}
+use Rattle.std.proofs.lemmas.Cmp.{nat_list_cmp_total}
 use Rattle.std.proofs.lemmas.List.{length-map, map-append}
 use Rattle.std.proofs.lemmas.List.Concat.{length-flat_map}
 use Rattle.std.proofs.lemmas.List.Elements.{All-append, All-from_recursion, All-weaker, recursion_from_All}
@@ -54,6 +53,7 @@ use Rattle.cs_model_index.proofs.CorpusSizes.{posts_few, posts_from, title_there
 use Rattle.cs_model_index.proofs.ImageLemmas.{titles_listed}
 use Rattle.cs_model_index.proofs.Listings.{all_both, any_listed, listed_each}
 use Rattle.cs_model_index.proofs.NumberedLemmas.{number_below, word_of_number}
+use Rattle.cs_model_index.proofs.ReadCorpora.{titled}
 use Rattle.cs_model_index.proofs.TextLimits.{word_length}
 use Rattle.cs_model_merge.specs.Merges.{are_same}
 use Rattle.cs_build.specs.Building.{KeepLimits, corpus_of_rows}
@@ -87,20 +87,6 @@ joined_titles ts us =
     ∙ ap (λ l. l ++ enumerate_from (0 + length ts) us) (sym (titles_listed ts))
     ∙ ap (λ l. entries (by_number ts) ++ l)
     (ap (λ m. enumerate_from m us) number ∙ sym (later_titles 0 n us) ∙ ap (map (later_title n)) (sym (titles_listed us))))
-
-later_number : (d n : ℕ) → n ≤ d → eq_by_cmp nat_cmp d n ≡ false → n + 1 ≤ d
-later_number d n l e = grind (arith, nat_tests)
-
-title_found : (d n : ℕ) (ts : List (List ℕ)) → n ≤ d → d < n + length ts → is_some (find nat_cmp d (enumerate_from n ts)) ≡ true
-title_found d n [] l h = absurd (omega (arith, l, h))
-title_found d n (t ∷ ts) l h =
-    elim (eq_by_cmp nat_cmp d n) as (λ b. eq_by_cmp nat_cmp d n ≡ b → is_some (cond b (Some t) (find nat_cmp d (enumerate_from (n + 1) ts))) ≡ true) [
-      | true ↦ λ e. refl
-      | false ↦ λ e. title_found d (n + 1) ts (later_number d n l e) (omega (arith, h))
-    ] refl
-
-titled : (ts : List (List ℕ)) (d : ℕ) → d < length ts → contains_key (by_number ts) d ≡ true
-titled ts d l = ap is_some (get-from_entries nat_cmp_total (enumerate_from 0 ts) d) ∙ title_found d 0 ts (omega arith) (omega (arith, l))
 
 -- ---- rows under later documents
 not_later : (rs : List Row) → map (later_row 0) rs ≡ rs

@@ -7,12 +7,13 @@
 --   heads_again      the directory
 --   blocks_again     the blocks, by the law that the block of posts breaks no rule
 --   sections_again   the sections
-use Rattle.std.proofs.Common.{◌≡◌, ℕ, suc, ◌+◌, ◌-◌, ◌<◌, ◌≤◌, ◌^◌, Bool, true, not, cond, List, [], ◌∷◌, ◌++◌, length, take, drop, Option, Some, None, refl, sym, ap, ◌∙◌, arith, length-append, take_at, drop_at, drop-drop}
+use Rattle.std.proofs.Common.{◌≡◌, ℕ, suc, ◌+◌, ◌-◌, ◌<◌, ◌≤◌, ◌^◌, Bool, true, false, map, not, cond, List, [], ◌∷◌, ◌++◌, length, take, drop, Option, Some, None, refl, sym, ap, ◌∙◌, arith, length-append, take_at, drop_at, drop-drop}
 use Rattle.std.specs.Prelude.{flat_map, find}
-use Rattle.std.specs.List.{AllByRecursion}
+use Rattle.std.specs.List.{AllByRecursion, zip}
 use Rattle.std.specs.Option.{option_map}
-use Rattle.std.proofs.lemmas.Bool.{and_from, le-leb}
+use Rattle.std.proofs.lemmas.Bool.{and_from, le-leb, eq-eqb}
 use Rattle.std.proofs.lemmas.Nat.{from_be_bytes-to_be_bytes_4}
+use Rattle.cs_model_index.specs.BlockBounds.{bounded, HasBounds}
 use Rattle.cs_base.specs.declared.index.block.BlockHead.{BlockHead}
 use Rattle.cs_base.specs.declared.content.doc.Post.{Post}
 use Rattle.cs_base.specs.declared.content.limits.TheConstants.{MAX_WORD_BYTES}
@@ -20,12 +21,12 @@ use Rattle.cs_base.specs.declared.content.scores.Weights.{Weights}
 use Rattle.cs_model.specs.Weights.{AreWeights}
 use Rattle.cs_model_index.specs.BlockLaws.{OneReading}
 use Rattle.cs_model_index.specs.Blocks.{block_bytes, IsShaped}
-use Rattle.cs_model_index.specs.BlockRules.{IsBlock}
-use Rattle.cs_model_index.specs.FileRules.{Placed, place_of_item, break_of, is_length, words_break, blocks_break}
-use Rattle.cs_model_index.specs.Layout.{number_bytes, Header, vocabulary_bytes, offsets_from, title_bytes, entry_bytes, directory_bytes, blocks_bytes}
+use Rattle.cs_model_index.specs.BlockRules.{IsBlock, rows_read}
+use Rattle.cs_model_index.specs.FileRules.{Placed, place_of_item, break_of, is_length, words_break, blocks_break, laid, is_bound}
+use Rattle.cs_model_index.specs.Layout.{number_bytes, Header, vocabulary_bytes, offsets_from, title_bytes, entry_bytes, entry_size, directory_bytes, blocks_bytes}
 use Rattle.cs_model_index.specs.Numbered.{word_at}
 use Rattle.cs_model_index.specs.Partitions.{is_facet}
-use Rattle.cs_model_index.specs.Sections.{number_at, vocabulary_in, numbers_in, title_between, titles_in, head_in, heads_in, blocks_in, offsets_len, directory_len, sections}
+use Rattle.cs_model_index.specs.Sections.{number_at, vocabulary_in, numbers_in, title_between, titles_in, head_in, heads_in, heads_by, bounds_in, blocks_in, offsets_len, directory_len, sections}
 
 -- ---- items
 found_not : {X : Type 0} (b : Bool) (i : Placed X) (o : Option (Placed X)) → b ≡ true → option_map place_of_item o ≡ None → option_map place_of_item (cond (not b) (Some i) o) ≡ None
@@ -93,23 +94,47 @@ pub record HeadFits (ws : List (List ℕ)) (h : BlockHead) : Type 0 where
   pub words : h.words < 2 ^ 32
   pub rows : h.rows < 2 ^ 32
   pub len : h.len < 2 ^ 32
+  pub least : h.least < 2 ^ 32
+  pub greatest : h.greatest < 2 ^ 32
   pub facet : h.facet ≡ is_facet (word_at ws h.lo)
 
-same_head : (h : BlockHead) (a b c d : ℕ) (f : Bool) → a ≡ h.lo → b ≡ h.words → c ≡ h.rows → d ≡ h.len → f ≡ h.facet → let x : BlockHead = record { lo = a; words = b; rows = c; len = d; facet = f } in x ≡ h
+-- a head before its bounds are known
+abbrev pub unbounded : BlockHead → BlockHead
+unbounded h = record { lo = h.lo; words = h.words; rows = h.rows; len = h.len; facet = h.facet; least = 0; greatest = 0 }
+
+same_head : (h : BlockHead) (a b c d : ℕ) (f : Bool) → a ≡ h.lo → b ≡ h.words → c ≡ h.rows → d ≡ h.len → f ≡ h.facet → let x : BlockHead = record { lo = a; words = b; rows = c; len = d; facet = f; least = 0; greatest = 0 } in x ≡ unbounded h
 same_head h a b c d f p q r s t = rw (p, q, r, s, t) refl
 
-head_again : (words : List (List ℕ)) (h : BlockHead) (rest : List ℕ) → HeadFits words h → head_in words (entry_bytes h ++ rest) ≡ h
+head_again : (two : Bool) (words : List (List ℕ)) (h : BlockHead) (rest : List ℕ) → HeadFits words h → head_in words (entry_bytes two h ++ rest) ≡ unbounded h
 unfolding number_at
-head_again words h rest fits =
+head_again two words h rest fits =
     let lo = from_be_bytes-to_be_bytes_4 h.lo fits.lo in
     same_head h _ _ _ _ _ lo (from_be_bytes-to_be_bytes_4 h.words fits.words) (from_be_bytes-to_be_bytes_4 h.rows fits.rows) (from_be_bytes-to_be_bytes_4 h.len fits.len)
     (ap (λ (n : ℕ). is_facet (word_at words n)) lo ∙ sym fits.facet)
 
-pub heads_again : (words : List (List ℕ)) (hs : List BlockHead) → AllByRecursion (HeadFits words) hs → heads_in words (length hs) (directory_bytes hs) ≡ hs
+entry_behind : (two : Bool) (h : BlockHead) (rest : List ℕ) → drop (entry_size two) (entry_bytes two h ++ rest) ≡ rest
+unfolding entry_size
+entry_behind true h rest = refl
+entry_behind false h rest = refl
+
+pub heads_again : (two : Bool) (words : List (List ℕ)) (hs : List BlockHead) → AllByRecursion (HeadFits words) hs → heads_in (entry_size two) words (length hs) (directory_bytes two hs) ≡ map unbounded hs
 unfolding heads_in directory_bytes
-heads_again words [] h = refl
-heads_again words (g ∷ hs) h =
-    ap (λ (x : BlockHead). x ∷ heads_in words (length hs) (flat_map entry_bytes hs)) (head_again words g (flat_map entry_bytes hs) h.0) ∙ ap (λ (l : List BlockHead). g ∷ l) (heads_again words hs h.1)
+heads_again two words [] h = refl
+heads_again two words (g ∷ hs) h =
+    let rest = flat_map (entry_bytes two) hs in
+    ap (λ (x : BlockHead). x ∷ heads_in (entry_size two) words (length hs) (drop (entry_size two) (entry_bytes two g ++ rest))) (head_again two words g rest h.0)
+    ∙ ap (λ (l : List ℕ). unbounded g ∷ heads_in (entry_size two) words (length hs) l) (entry_behind two g rest)
+    ∙ ap (λ (l : List BlockHead). unbounded g ∷ l) (heads_again two words hs h.1)
+
+-- the bounds of the entries are those of the heads
+pub bounds_again : (words : List (List ℕ)) (hs : List BlockHead) (at : ℕ) (last : Option (BlockHead × (ℕ × ℕ))) → AllByRecursion (HeadFits words) hs
+    → AllByRecursion (λ i. is_bound i.value ≡ true) (laid (λ p. 24) at last (zip hs (bounds_in 24 (length hs) (directory_bytes true hs))))
+unfolding bounds_in directory_bytes laid number_at
+bounds_again words [] at last h = tt
+bounds_again words (g ∷ hs) at last h =
+    let least = from_be_bytes-to_be_bytes_4 g.least h.0.least in
+    let greatest = from_be_bytes-to_be_bytes_4 g.greatest h.0.greatest in
+    (and_from _ _ (eq-eqb _ _ (sym least)) (eq-eqb _ _ (sym greatest)), bounds_again words hs (at + 24) _ h.1)
 
 -- ---- the blocks
 -- blocks that go with their heads
@@ -117,12 +142,15 @@ unfoldable pub AreBlocks : Weights → ℕ → List BlockHead → List (List Pos
 AreBlocks weights docs [] [] = Unit {0}
 AreBlocks weights docs [] (rs ∷ rss) = ⊥
 AreBlocks weights docs (h ∷ hs) [] = ⊥
-AreBlocks weights docs (h ∷ hs) (rs ∷ rss) = IsShaped h (length (block_bytes rs h.lo)) × IsBlock weights h docs rs (block_bytes rs h.lo) × AreBlocks weights docs hs rss
+AreBlocks weights docs (h ∷ hs) (rs ∷ rss) = IsShaped h (length (block_bytes rs h.lo)) × (IsBlock weights h docs rs (block_bytes rs h.lo) × HasBounds h rs) × AreBlocks weights docs hs rss
+
+same_bounds : (h : BlockHead) (rs : List Post) → HasBounds h rs → bounded h rs ≡ h
+same_bounds h rs b = rw (← b.least, ← b.greatest) refl
 
 pub blocks_again : OneReading → (weights : Weights) → AreWeights weights → (docs at : ℕ) (hs : List BlockHead) (rss : List (List Post)) → docs < 2 ^ 32 → AreBlocks weights docs hs rss
-    → (blocks_break weights docs at hs (blocks_bytes hs rss) ≡ None) × (blocks_in hs (blocks_bytes hs rss) ≡ rss)
-unfolding blocks_break blocks_in blocks_bytes AreBlocks
-blocks_again law weights fine docs at [] [] few b = (refl, refl)
+    → (blocks_break weights docs at hs (blocks_bytes hs rss) ≡ None) × (blocks_in hs (blocks_bytes hs rss) ≡ rss) × (heads_by (map unbounded hs) (blocks_bytes hs rss) ≡ hs)
+unfolding blocks_break blocks_in blocks_bytes heads_by AreBlocks rows_read
+blocks_again law weights fine docs at [] [] few b = (refl, refl, refl)
 blocks_again law weights fine docs at [] (rs ∷ rss) few b = absurd b
 blocks_again law weights fine docs at (h ∷ hs) [] few b = absurd b
 blocks_again law weights fine docs at (h ∷ hs) (rs ∷ rss) few b =
@@ -131,10 +159,11 @@ blocks_again law weights fine docs at (h ∷ hs) (rs ∷ rss) few b =
     let len : length block ≡ h.len = b.0.size_is in
     let front : take h.len (block ++ rest) ≡ block = take_at block rest h.len len in
     let behind : drop h.len (block ++ rest) ≡ rest = drop_at block rest h.len len in
-    let u = law weights fine h docs rs block few b.0 b.1 in
+    let u = law weights fine h docs rs block few b.0 b.1.0 in
     let t = blocks_again law weights fine docs (at + h.len) hs rss few b.2 in (
       rw (front, behind, u.0) t.0,
       rw (front, behind) (ap (λ (x : List Post). x ∷ blocks_in hs rest) u.1 ∙ ap (λ (x : List (List Post)). rs ∷ x) t.1),
+      rw (front, behind) (ap (λ (x : List Post). bounded h x ∷ heads_by (map unbounded hs) rest) u.1 ∙ ap (λ (x : BlockHead). x ∷ heads_by (map unbounded hs) rest) (same_bounds h rs b.1.1) ∙ ap (λ (x : List BlockHead). h ∷ x) t.2),
     )
 
 -- ---- the sections

@@ -1,6 +1,6 @@
 -- The definitions on three worked index files: that of the empty collection, that of one document with the title `Ab`, the facet
 -- `k=C` and the text `b a`, and that of this document with other weights.
-use Rattle.std.proofs.Common.{◌≡◌, List, ℕ, [], ◌∷◌, ◌++◌, set, take, Some, None, Option, refl, sym, ◌∙◌, ap, subst, codes}
+use Rattle.std.proofs.Common.{◌≡◌, List, ℕ, [], ◌∷◌, ◌++◌, set, take, drop, Some, None, Option, refl, sym, ◌∙◌, ap, subst, codes}
 use Rattle.std.specs.Char.{encode_utf8}
 use Rattle.std.specs.Str.{chars, is_utf8}
 use Rattle.std.specs.Prelude.{map, flat_map}
@@ -27,10 +27,11 @@ use Rattle.cs_model.proofs.ListedMembers.{members-listed}
 use Rattle.cs_model_index.specs.Blocks.{gap_column, word_column, position_column, score_column, block_bytes}
 use Rattle.cs_model_index.specs.BlockRules.{codes_break, items_in, first_break, judged, rows_read}
 use Rattle.cs_model_index.specs.Images.{Image, image_by, count_in, heads_from, IsImage, image_rows, image_corpus}
+use Rattle.cs_model_index.specs.BlockBounds.{least_of, greatest_of}
 use Rattle.cs_model_index.specs.Partitions.{IsPartition}
 use Rattle.cs_model_index.specs.declared.limits.TheConstants.{TARGET}
-use Rattle.cs_model_index.specs.Layout.{header_bytes, vocabulary_bytes, offsets_from, offset_bytes, directory_bytes, blocks_bytes, file}
-use Rattle.cs_model_index.specs.Sections.{number_at, vocabulary_in, numbers_in, heads_in, blocks_in, image_of}
+use Rattle.cs_model_index.specs.Layout.{header_bytes, vocabulary_bytes, offsets_from, offset_bytes, directory_bytes, blocks_bytes, entry_size, file, file_in, file1}
+use Rattle.cs_model_index.specs.Sections.{number_at, vocabulary_in, numbers_in, heads_in, heads_by, bounds_in, blocks_in, image_of}
 use Rattle.cs_model_index.specs.WeightsField.{field_of, is_field, three_bytes, weights_of}
 use Rattle.cs_model_index.specs.FileRules.{laid, break_of, words_break, blocks_break, damage}
 use lib.Utf8
@@ -64,16 +65,16 @@ empty_bytes =
     ∷ 0 ∷ 0 ∷ 0 ∷ 0 ∷ 0 ∷ 0 ∷ 32 ∷ 0 ∷ 0 ∷ 0 ∷ 0 ∷ 0 ∷ 0 ∷ 0 ∷ 0 ∷ 0 ∷ 0 ∷ 0 ∷ 0 ∷ 0
     ∷ 0 ∷ 0 ∷ 0 ∷ 0 ∷ 0 ∷ 0 ∷ 0 ∷ 0 ∷ []
 
-file-empty : file (empty_image) ≡ empty_bytes
-unfolding file header_bytes vocabulary_bytes offset_bytes offsets_from directory_bytes blocks_bytes heads_from field_of three_bytes
+file-empty : file1 (empty_image) ≡ empty_bytes
+unfolding file_in entry_size least_of greatest_of header_bytes vocabulary_bytes offset_bytes offsets_from directory_bytes blocks_bytes heads_from field_of three_bytes
 file-empty = refl
 
 image-empty : image_of empty_bytes ≡ empty_image
-unfolding image_of number_at vocabulary_in numbers_in heads_in blocks_in heads_from weights_of
+unfolding image_of entry_size heads_by bounds_in least_of greatest_of number_at vocabulary_in numbers_in heads_in blocks_in heads_from weights_of
 image-empty = refl
 
 damage-empty : damage empty_bytes ≡ None
-unfolding damage number_at vocabulary_in numbers_in heads_in blocks_in laid break_of words_break blocks_break weights_of is_field three_bytes
+unfolding damage entry_size heads_by bounds_in least_of greatest_of number_at vocabulary_in numbers_in heads_in blocks_in laid break_of words_break blocks_break weights_of is_field three_bytes
 damage-empty = refl
 
 -- ---- one document
@@ -129,33 +130,33 @@ worked_bytes =
     ∷ 0 ∷ 0 ∷ 0 ∷ 0 ∷ 0 ∷ 2 ∷ 0 ∷ 0 ∷ 0 ∷ 0 ∷ 1 ∷ 0 ∷ 2 ∷ 0 ∷ 0 ∷ 0 ∷ 0 ∷ 0 ∷ 1 ∷ 0
     ∷ 0 ∷ 0 ∷ 10 ∷ 0 ∷ 0 ∷ 0 ∷ 11 ∷ 4 ∷ 1 ∷ 1 ∷ []
 
-file-worked : file worked_image ≡ worked_bytes
-unfolding file header_bytes vocabulary_bytes offset_bytes offsets_from directory_bytes blocks_bytes heads_from block_bytes gap_column word_column position_column score_column code code_in field_of three_bytes
+file-worked : file1 worked_image ≡ worked_bytes
+unfolding file_in entry_size least_of greatest_of header_bytes vocabulary_bytes offset_bytes offsets_from directory_bytes blocks_bytes heads_from block_bytes gap_column word_column position_column score_column code code_in field_of three_bytes
 file-worked = refl
 
 image-worked : image_of worked_bytes ≡ worked_image
-unfolding image_of number_at vocabulary_in numbers_in heads_in blocks_in heads_from block_bytes gap_column word_column position_column score_column rows_read items_in first_code looked_at value_of code code_in weights_of
+unfolding image_of entry_size heads_by bounds_in least_of greatest_of number_at vocabulary_in numbers_in heads_in blocks_in heads_from block_bytes gap_column word_column position_column score_column rows_read items_in first_code looked_at value_of code code_in weights_of
 image-worked = refl
 
 damage-worked : damage worked_bytes ≡ None
-unfolding damage number_at vocabulary_in numbers_in heads_in blocks_in laid break_of words_break blocks_break judged rows_read codes_break items_in first_break first_code looked_at value_of code code_in chars is_utf8 is_word_char lib.Utf8.encode weights_of is_field three_bytes
+unfolding damage entry_size heads_by bounds_in least_of greatest_of number_at vocabulary_in numbers_in heads_in blocks_in laid break_of words_break blocks_break judged rows_read codes_break items_in first_break first_code looked_at value_of code code_in chars is_utf8 is_word_char lib.Utf8.encode weights_of is_field three_bytes
 damage-worked = refl
 
 -- ---- damage
 
 -- cut within the header
 damage-cut_header : map (λ n. damage (take n worked_bytes)) (range_with_len 0 44) ≡ map (broken 1) (range_with_len 0 44)
-unfolding damage number_at vocabulary_in numbers_in heads_in blocks_in laid break_of words_break blocks_break judged rows_read codes_break items_in first_break first_code looked_at value_of code code_in chars is_utf8 is_word_char lib.Utf8.encode weights_of is_field three_bytes
+unfolding damage entry_size heads_by bounds_in least_of greatest_of number_at vocabulary_in numbers_in heads_in blocks_in laid break_of words_break blocks_break judged rows_read codes_break items_in first_break first_code looked_at value_of code code_in chars is_utf8 is_word_char lib.Utf8.encode weights_of is_field three_bytes
 damage-cut_header = refl
 
 -- cut behind it
 damage-cut : map (λ n. damage (take n worked_bytes)) (range_with_len 44 86) ≡ map (broken 4) (range_with_len 44 86)
-unfolding damage number_at vocabulary_in numbers_in heads_in blocks_in laid break_of words_break blocks_break judged rows_read codes_break items_in first_break first_code looked_at value_of code code_in chars is_utf8 is_word_char lib.Utf8.encode weights_of is_field three_bytes
+unfolding damage entry_size heads_by bounds_in least_of greatest_of number_at vocabulary_in numbers_in heads_in blocks_in laid break_of words_break blocks_break judged rows_read codes_break items_in first_break first_code looked_at value_of code code_in chars is_utf8 is_word_char lib.Utf8.encode weights_of is_field three_bytes
 damage-cut = refl
 
 -- with one byte more
 damage-longer : damage (worked_bytes ++ 0 ∷ []) ≡ broken 4 131
-unfolding damage number_at vocabulary_in numbers_in heads_in blocks_in laid break_of words_break blocks_break judged rows_read codes_break items_in first_break first_code looked_at value_of code code_in chars is_utf8 is_word_char lib.Utf8.encode weights_of is_field three_bytes
+unfolding damage entry_size heads_by bounds_in least_of greatest_of number_at vocabulary_in numbers_in heads_in blocks_in laid break_of words_break blocks_break judged rows_read codes_break items_in first_break first_code looked_at value_of code code_in chars is_utf8 is_word_char lib.Utf8.encode weights_of is_field three_bytes
 damage-longer = refl
 
 -- one byte set to another value, and the first broken rule with its place
@@ -187,13 +188,44 @@ set_bytes =
     ∷ []
 
 damage-set : map (λ e. damage (set worked_bytes e.0 e.1)) set_bytes ≡ map (λ e. e.2) set_bytes
-unfolding damage number_at vocabulary_in numbers_in heads_in blocks_in laid break_of words_break blocks_break judged rows_read codes_break items_in first_break first_code looked_at value_of code code_in chars is_utf8 is_word_char lib.Utf8.encode weights_of is_field three_bytes
+unfolding damage entry_size heads_by bounds_in least_of greatest_of number_at vocabulary_in numbers_in heads_in blocks_in laid break_of words_break blocks_break judged rows_read codes_break items_in first_break first_code looked_at value_of code code_in chars is_utf8 is_word_char lib.Utf8.encode weights_of is_field three_bytes
 damage-set = refl
 
 -- the first block has two words, of two kinds
 damage-kinds : damage (set (set (set worked_bytes 73 2) 85 2) 89 2) ≡ broken 11 66
-unfolding damage number_at vocabulary_in numbers_in heads_in blocks_in laid break_of words_break blocks_break judged rows_read codes_break items_in first_break first_code looked_at value_of code code_in chars is_utf8 is_word_char lib.Utf8.encode weights_of is_field three_bytes
+unfolding damage entry_size heads_by bounds_in least_of greatest_of number_at vocabulary_in numbers_in heads_in blocks_in laid break_of words_break blocks_break judged rows_read codes_break items_in first_break first_code looked_at value_of code code_in chars is_utf8 is_word_char lib.Utf8.encode weights_of is_field three_bytes
 damage-kinds = refl
+
+-- ---- the same document in version 2
+abbrev zeros : List ℕ
+zeros = 0 ∷ 0 ∷ 0 ∷ 0 ∷ 0 ∷ 0 ∷ 0 ∷ 0 ∷ []
+
+-- the other version's number, and bounds behind each entry of the directory
+abbrev worked_bytes2 : List ℕ
+worked_bytes2 = set (take 82 worked_bytes) 6 50 ++ (zeros ++ (take 16 (drop 82 worked_bytes) ++ (zeros ++ drop 98 worked_bytes)))
+
+file-worked2 : file worked_image ≡ worked_bytes2
+unfolding file_in entry_size least_of greatest_of header_bytes vocabulary_bytes offset_bytes offsets_from directory_bytes blocks_bytes heads_from block_bytes gap_column word_column position_column score_column code code_in field_of three_bytes
+file-worked2 = refl
+
+image-worked2 : image_of worked_bytes2 ≡ worked_image
+unfolding image_of entry_size heads_by bounds_in least_of greatest_of number_at vocabulary_in numbers_in heads_in blocks_in heads_from block_bytes gap_column word_column position_column score_column rows_read items_in first_code looked_at value_of code code_in weights_of
+image-worked2 = refl
+
+abbrev set_bytes2 : List (ℕ × ℕ × Option Broken)
+set_bytes2 =
+    (6, 50, None)
+    ∷ (6, 51, broken 2 0)
+    ∷ (6, 49, broken 4 146)
+    ∷ (85, 1, broken 19 66)
+    ∷ (89, 1, broken 19 66)
+    ∷ (113, 1, broken 19 90)
+    ∷ (90, 1, broken 10 90)
+    ∷ []
+
+damage-set2 : map (λ e. damage (set worked_bytes2 e.0 e.1)) set_bytes2 ≡ map (λ e. e.2) set_bytes2
+unfolding damage entry_size heads_by bounds_in least_of greatest_of number_at vocabulary_in numbers_in heads_in blocks_in laid break_of words_break blocks_break judged rows_read codes_break items_in first_break first_code looked_at value_of code code_in chars is_utf8 is_word_char lib.Utf8.encode weights_of is_field three_bytes
+damage-set2 = refl
 
 -- ---- the same document with other weights
 
@@ -241,16 +273,16 @@ image-weighted = record {
 abbrev weighted_bytes : List ℕ
 weighted_bytes = set (set (set (set (set (set (set worked_bytes 41 9) 42 3) 43 2) 105 3) 127 9) 128 2) 129 2
 
-file-weighted : file weighted_image ≡ weighted_bytes
-unfolding file header_bytes vocabulary_bytes offset_bytes offsets_from directory_bytes blocks_bytes heads_from block_bytes gap_column word_column position_column score_column code code_in field_of three_bytes
+file-weighted : file1 weighted_image ≡ weighted_bytes
+unfolding file_in entry_size least_of greatest_of header_bytes vocabulary_bytes offset_bytes offsets_from directory_bytes blocks_bytes heads_from block_bytes gap_column word_column position_column score_column code code_in field_of three_bytes
 file-weighted = refl
 
 read-weighted : image_of weighted_bytes ≡ weighted_image
-unfolding image_of number_at vocabulary_in numbers_in heads_in blocks_in heads_from block_bytes gap_column word_column position_column score_column rows_read items_in first_code looked_at value_of code code_in weights_of
+unfolding image_of entry_size heads_by bounds_in least_of greatest_of number_at vocabulary_in numbers_in heads_in blocks_in heads_from block_bytes gap_column word_column position_column score_column rows_read items_in first_code looked_at value_of code code_in weights_of
 read-weighted = refl
 
 damage-weighted : damage weighted_bytes ≡ None
-unfolding damage number_at vocabulary_in numbers_in heads_in blocks_in laid break_of words_break blocks_break judged rows_read codes_break items_in first_break first_code looked_at value_of code code_in chars is_utf8 is_word_char lib.Utf8.encode weights_of is_field three_bytes
+unfolding damage entry_size heads_by bounds_in least_of greatest_of number_at vocabulary_in numbers_in heads_in blocks_in laid break_of words_break blocks_break judged rows_read codes_break items_in first_break first_code looked_at value_of code code_in chars is_utf8 is_word_char lib.Utf8.encode weights_of is_field three_bytes
 damage-weighted = refl
 
 -- a byte in front of the weights, a weight that is none, and scores that aren't the weight of their column
@@ -267,10 +299,10 @@ weighted_sets =
     ∷ []
 
 damage-weighted_set : map (λ e. damage (set weighted_bytes e.0 e.1)) weighted_sets ≡ map (λ e. e.2) weighted_sets
-unfolding damage number_at vocabulary_in numbers_in heads_in blocks_in laid break_of words_break blocks_break judged rows_read codes_break items_in first_break first_code looked_at value_of code code_in chars is_utf8 is_word_char lib.Utf8.encode weights_of is_field three_bytes
+unfolding damage entry_size heads_by bounds_in least_of greatest_of number_at vocabulary_in numbers_in heads_in blocks_in laid break_of words_break blocks_break judged rows_read codes_break items_in first_break first_code looked_at value_of code code_in chars is_utf8 is_word_char lib.Utf8.encode weights_of is_field three_bytes
 damage-weighted_set = refl
 
 -- the usual weights have the number 0 and no other
 damage-usual : damage (set (set (set worked_bytes 41 4) 42 2) 43 1) ≡ broken 3 40
-unfolding damage number_at vocabulary_in numbers_in heads_in blocks_in laid break_of words_break blocks_break judged rows_read codes_break items_in first_break first_code looked_at value_of code code_in chars is_utf8 is_word_char lib.Utf8.encode weights_of is_field three_bytes
+unfolding damage entry_size heads_by bounds_in least_of greatest_of number_at vocabulary_in numbers_in heads_in blocks_in laid break_of words_break blocks_break judged rows_read codes_break items_in first_break first_code looked_at value_of code code_in chars is_utf8 is_word_char lib.Utf8.encode weights_of is_field three_bytes
 damage-usual = refl

@@ -2,6 +2,7 @@ pub mod AcceptedLemmas
 pub mod AgainLemmas
 pub mod BlockSizes
 pub mod BlockUses
+pub mod BoundsLemmas
 pub mod CorpusLemmas
 pub mod CorpusSizes
 pub mod FileExamples

@@ -26,8 +26,9 @@ use Rattle.cs_model_index.specs.BlockRules.{IsBlock, judged, keeps, rows_read}
 use Rattle.cs_model_index.specs.FileRules.{blocks_break, follows, has_rows, is_closed, is_joined, is_of_one_kind, is_parted, laid, words_end}
 use Rattle.cs_model_index.specs.Numbered.{word_at}
 use Rattle.cs_model_index.specs.Partitions.{is_facet, is_light, is_one_kind}
-use Rattle.cs_model_index.specs.Sections.{blocks_in, heads_in}
-use Rattle.cs_model_index.specs.declared.limits.TheConstants.{ENTRY_BYTES, MAX_BLOCK_WORDS}
+use Rattle.cs_model_index.specs.BlockBounds.{HasBounds}
+use Rattle.cs_model_index.specs.Sections.{blocks_in, heads_by, heads_in, number_at}
+use Rattle.cs_model_index.specs.declared.limits.TheConstants.{MAX_BLOCK_WORDS}
 use Rattle.cs_model_index.proofs.BlockUses.{BlocksAreRead}
 use Rattle.cs_model_index.proofs.NumbersLemmas.{IsBytes, IsBytes-take, IsBytes-drop, all_from_bytes}
 use Rattle.cs_model_index.proofs.RunRows.{Run}
@@ -72,6 +73,7 @@ pub record IsRead (ws : Run) (docs target lo : ℕ) (h : BlockHead) (b : List Po
   pub known : AllByRecursion (λ p. p.doc < docs) b
   pub full : has_rows (h, b) ≡ true
   pub light : is_light target h.words (length b) ≡ true
+  pub bounds : HasBounds h b
 
 keeps_all : (holds : Option Post → Post → Bool) (P : Post → Type 0) → ((last : Option Post) (r : Post) → holds last r ≡ true → P r) → (last : Option Post) (rs : List Post) → keeps holds last rs ≡ true → AllByRecursion P rs
 unfolding keeps
@@ -88,6 +90,16 @@ block_words h docs rs bytes is =
 block_docs : {weights : Weights} (h : BlockHead) (docs : ℕ) (rs : List Post) (bytes : List ℕ) → IsBlock weights h docs rs bytes → AllByRecursion (λ p. p.doc < docs) rs
 block_docs h docs rs bytes is = keeps_all (λ last r. nat_lt r.doc docs) (λ p. p.doc < docs) (λ last r e. ltb-true r.doc docs e) None rs is.meets.0
 
+-- each head's bounds are those of the rows that are read behind it
+unfoldable pub AreBounded : List BlockHead → List ℕ → Type 0
+AreBounded [] bytes = Unit {0}
+AreBounded (h ∷ hs) bytes = HasBounds h (rows_read h (take h.len bytes)) × AreBounded hs (drop h.len bytes)
+
+pub heads_bounded : (hs : List BlockHead) (bytes : List ℕ) → AreBounded (heads_by hs bytes) bytes
+unfolding AreBounded heads_by rows_read
+heads_bounded [] bytes = tt
+heads_bounded (h ∷ hs) bytes = (record { least = refl; greatest = refl }, heads_bounded hs (drop h.len bytes))
+
 -- ---- blocks, one behind the other
 module _ (ws : Run) (docs target : ℕ) where
   unfoldable pub AreRead : ℕ → List BlockHead → List (List Post) → Type 0
@@ -97,8 +109,8 @@ module _ (ws : Run) (docs target : ℕ) where
   AreRead lo (h ∷ hs) (b ∷ bs) = IsRead ws docs target lo h b × (is_closed target ws (h, b) (slice_get (zip hs bs) 0) ≡ true) × AreRead (lo + h.words) hs bs
 
   is_read : {weights : Weights} (lo : ℕ) (h : BlockHead) (bytes : List ℕ) → h.lo ≡ lo → 1 ≤ h.words → lo + h.words ≤ length ws → is_of_one_kind ws h ≡ true → h.facet ≡ is_facet (word_at ws h.lo) → h.len ≡ length bytes
-      → IsBlock weights h docs (rows_read h bytes) bytes → has_rows (h, rows_read h bytes) ≡ true → is_light target h.words (length (rows_read h bytes)) ≡ true → IsRead ws docs target lo h (rows_read h bytes)
-  is_read lo h bytes at some within kind facet len is full light =
+      → IsBlock weights h docs (rows_read h bytes) bytes → has_rows (h, rows_read h bytes) ≡ true → is_light target h.words (length (rows_read h bytes)) ≡ true → HasBounds h (rows_read h bytes) → IsRead ws docs target lo h (rows_read h bytes)
+  is_read lo h bytes at some within kind facet len is full light bounds =
       let rs : List Post = rows_read h bytes in
       let k = and_parts (nat_le h.words MAX_BLOCK_WORDS) (is_one_kind (take h.words (drop h.lo ws))) kind in
       record {
@@ -115,15 +127,16 @@ module _ (ws : Run) (docs target : ℕ) where
         known = block_docs h docs rs bytes is;
         full = full;
         light = light;
+        bounds = bounds;
       }
 
-  pub blocks_read : BlocksAreRead → (weights : Weights) → AreWeights weights → docs < 2 ^ 32 → (place at : ℕ) (last : Option BlockHead) (past : Option (BlockHead × List Post)) (hs : List BlockHead) (bytes : List ℕ)
-      → AllByRecursion (λ i. is_joined i.last i.value ≡ true) (laid (λ h. ENTRY_BYTES) place last hs) → AllByRecursion (λ i. is_of_one_kind ws i.value ≡ true) (laid (λ h. ENTRY_BYTES) place last hs)
-      → end_from (words_end last) hs ≡ length ws → AllByRecursion (λ h. h.facet ≡ is_facet (word_at ws h.lo)) hs → IsBytes bytes → AreShaped hs (length bytes) → blocks_break weights docs at hs bytes ≡ None
-      → AllByRecursion (λ i. is_parted target ws i ≡ true) (laid (λ p. ENTRY_BYTES) place past (zip hs (blocks_in hs bytes))) → AreRead (words_end last) hs (blocks_in hs bytes)
-  unfolding AreRead AreShaped blocks_break blocks_in end_from laid
-  blocks_read law weights fine few place at last past [] bytes j k end f fits shaped e parted = tt
-  blocks_read law weights fine few place at last past (h ∷ hs) bytes j k end f fits shaped e parted =
+  pub blocks_read : BlocksAreRead → (weights : Weights) → AreWeights weights → docs < 2 ^ 32 → (e place at : ℕ) (last : Option BlockHead) (past : Option (BlockHead × List Post)) (hs : List BlockHead) (bytes : List ℕ)
+      → AllByRecursion (λ i. is_joined i.last i.value ≡ true) (laid (λ h. e) place last hs) → AllByRecursion (λ i. is_of_one_kind ws i.value ≡ true) (laid (λ h. e) place last hs)
+      → end_from (words_end last) hs ≡ length ws → AllByRecursion (λ h. h.facet ≡ is_facet (word_at ws h.lo)) hs → IsBytes bytes → AreShaped hs (length bytes) → AreBounded hs bytes → blocks_break weights docs at hs bytes ≡ None
+      → AllByRecursion (λ i. is_parted target ws i ≡ true) (laid (λ p. e) place past (zip hs (blocks_in hs bytes))) → AreRead (words_end last) hs (blocks_in hs bytes)
+  unfolding AreRead AreShaped AreBounded blocks_break blocks_in end_from laid
+  blocks_read law weights fine few s place at last past [] bytes j k end f fits shaped bounded e parted = tt
+  blocks_read law weights fine few s place at last past (h ∷ hs) bytes j k end f fits shaped bounded e parted =
       let first : List ℕ = take h.len bytes in
       let p = block_none at (judged weights h docs first) (blocks_break weights docs (at + h.len) hs (drop h.len bytes)) e in
       let len : length first ≡ h.len = omega (arith, shaped.1, length-take h.len bytes) in
@@ -131,18 +144,18 @@ module _ (ws : Run) (docs target : ℕ) where
       let join = and_parts (h.lo == words_end last) (nat_le 1 h.words) j.0 in
       let here : h.lo ≡ words_end last = eqb-true _ _ join.0 in
       let some : 1 ≤ h.words = leb-true _ _ join.1 in
-      let rise : h.lo + h.words ≤ end_from (h.lo + h.words) hs = ends_rise (place + 16) (Some h) hs j.1 in
+      let rise : h.lo + h.words ≤ end_from (h.lo + h.words) hs = ends_rise s (place + s) (Some h) hs j.1 in
       let part = and_parts (has_rows (h, rows_read h first)) (is_light target h.words (length (rows_read h first)) && is_closed target ws (h, rows_read h first) (slice_get (zip hs (blocks_in hs (drop h.len bytes))) 0)) parted.0 in
       let rest = and_parts (is_light target h.words (length (rows_read h first))) (is_closed target ws (h, rows_read h first) (slice_get (zip hs (blocks_in hs (drop h.len bytes))) 0)) part.1 in
       let left : AreShaped hs (length (drop h.len bytes)) = subst (AreShaped hs) (sym (length-drop h.len bytes)) shaped.2 in (
-        is_read (words_end last) h first here some (omega (arith, here, rise, end)) k.0 f.0 (sym len) block part.0 rest.0,
+        is_read (words_end last) h first here some (omega (arith, here, rise, end)) k.0 f.0 (sym len) block part.0 rest.0 bounded.0,
         rest.1,
         subst (λ n. AreRead (n + h.words) hs (blocks_in hs (drop h.len bytes))) here
-            (blocks_read law weights fine few (place + 16) (at + h.len) (Some h) (Some (h, rows_read h first)) hs (drop h.len bytes) j.1 k.1 end f.1 (IsBytes-drop h.len bytes fits) left p.1 parted.1),
+            (blocks_read law weights fine few s (place + s) (at + h.len) (Some h) (Some (h, rows_read h first)) hs (drop h.len bytes) j.1 k.1 end f.1 (IsBytes-drop h.len bytes fits) left bounded.1 p.1 parted.1),
       )
 
 -- each head's kind is that of its first word
-pub heads_kinds : (ws : Run) (k : ℕ) (bytes : List ℕ) → AllByRecursion (λ h. h.facet ≡ is_facet (word_at ws h.lo)) (heads_in ws k bytes)
-unfolding heads_in
-heads_kinds ws zero bytes = tt
-heads_kinds ws (suc k) bytes = (refl, heads_kinds ws k (drop 16 bytes))
+pub heads_kinds : (e : ℕ) (ws : Run) (k : ℕ) (bytes blocks : List ℕ) → AllByRecursion (λ h. h.facet ≡ is_facet (word_at ws h.lo)) (heads_by (heads_in e ws k bytes) blocks)
+unfolding heads_in heads_by
+heads_kinds e ws zero bytes blocks = tt
+heads_kinds e ws (suc k) bytes blocks = (refl, heads_kinds e ws k (drop e bytes) (drop (number_at bytes 12) blocks))

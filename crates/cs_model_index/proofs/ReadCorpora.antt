@@ -3,6 +3,7 @@
 --   IsOne r s         rows with one document, position and word are one row
 --   posts_apart       so it is with the rows of any two posts that are read
 --   rows_named        so rows that are listed by all four are in order by these three
+--   titled            a document below as many as there are titles has one
 --   corpora_read      the law, by the laws of blocks
 use Rattle.std.proofs.Common.{◌≡◌, ℕ, ◌+◌, ◌<◌, ◌≤◌, true, false, cond, List, [], ◌∷◌, ◌++◌, length, map, refl, sym, ap, ◌∙◌, arith}
 use Rattle.std.specs.Prelude.{Some, flat_map}
@@ -161,7 +162,7 @@ title_found d n (t ∷ ts) l h =
       | false ↦ λ e. title_found d (n + 1) ts (later_number d n l e) (omega (arith, h))
     ] refl
 
-titled : (ts : List (List ℕ)) (d : ℕ) → d < length ts → contains_key (by_number ts) d ≡ true
+pub titled : (ts : List (List ℕ)) (d : ℕ) → d < length ts → contains_key (by_number ts) d ≡ true
 titled ts d l = ap is_some (get-from_entries nat_cmp_total (enumerate_from 0 ts) d) ∙ title_found d 0 ts (omega arith) (omega (arith, l))
 
 -- ---- the law

@@ -25,8 +25,9 @@ use Rattle.cs_model_index.specs.BlockLaws.{AcceptedAreBlocks, OneReading}
 use Rattle.cs_model_index.specs.FileLaws.{AcceptedAreImages}
 use Rattle.cs_model_index.specs.FileRules.{damage, IsIndexFile, word_size}
 use Rattle.cs_model_index.specs.Images.{Image, block_of, heads_from, image_by}
+use Rattle.cs_model_index.specs.Layout.{entry_size}
 use Rattle.cs_model_index.specs.Numbered.{HasWord}
-use Rattle.cs_model_index.specs.Sections.{blocks_at, contents_of, directory_at, header_of, image_of, offsets_at, sections, vocabulary_at}
+use Rattle.cs_model_index.specs.Sections.{blocks_at, contents_of, directory_at, header_of, image_of, offsets_at, sections, vocabulary_at, heads_in}
 use Rattle.cs_model_index.specs.WeightsField.{weights_of}
 use Rattle.cs_model_index.specs.declared.limits.TheConstants.{HEADER_BYTES}
 use Rattle.cs_model_index.proofs.AcceptedLemmas.{is_sound}
@@ -34,11 +35,11 @@ use Rattle.cs_model_index.proofs.BlockUses.{BlocksAreRead, blocks_are_read}
 use Rattle.cs_model_index.proofs.CorpusLemmas.{any_alike}
 use Rattle.cs_model_index.proofs.Listings.{same_tests}
 use Rattle.cs_model_index.proofs.NumbersLemmas.{numbers_count}
-use Rattle.cs_model_index.proofs.ReadBlocks.{AreRead, blocks_read, heads_kinds, rising_words}
+use Rattle.cs_model_index.proofs.ReadBlocks.{AreRead, blocks_read, heads_bounded, heads_kinds, rising_words}
 use Rattle.cs_model_index.proofs.ReadRows.{runs_from, runs_joined, posts_below, rows, blocks_again, heads_again, rows_known, rows_present, runs_fit, runs_ended}
+use Rattle.cs_model_index.proofs.WeightsFieldLemmas.{weights_fine}
 use Rattle.cs_model_index.proofs.RunRows.{Run}
 use Rattle.cs_model_index.proofs.SectionLemmas.{end_from, end_is, shapes, titles_written, words_written}
-use Rattle.cs_model_index.proofs.WeightsFieldLemmas.{weights_fine}
 
 -- ---- a file
 pub record FileRead (i : Image) : Type 0 where
@@ -60,12 +61,12 @@ file_read law b small e =
     let many : length r.offsets ≡ h.docs + 1 = numbers_count (h.docs + 1) s.offsets in
     let titles = titles_written (offsets_at h) r.offsets s.titles (omega (arith, many)) v.onward (v.last_offset ∙ sym is.sized.titles) in
     let last : end_from 0 r.heads ≡ h.words = sym (end_is r.heads) ∙ v.end in
-    let shaped = shapes (directory_at h) None r.heads (length s.blocks) v.joined v.sized (omega (arith, last, v.fields.words)) (v.bytes_sum ∙ sym is.sized.blocks) in
+    let shaped = shapes (entry_size h.two) (directory_at h) None r.heads (length s.blocks) v.joined v.sized (omega (arith, last, v.fields.words)) (v.bytes_sum ∙ sym is.sized.blocks) in
     record {
       up = rising_words word_size vocabulary_at r.words v.ascend;
       docs = h.docs;
       titles = omega (arith, titles.0, many);
-      read = blocks_read r.words h.docs h.target law (weights_of h.weights) (weights_fine h.weights v.fields.weights) (omega (arith, v.fields.docs)) (directory_at h) (blocks_at h) None None r.heads s.blocks v.joined v.kinds (last ∙ sym count) (heads_kinds r.words h.blocks s.directory) is.bytes.blocks shaped is.hold.blocks v.parted;
+      read = blocks_read r.words h.docs h.target law (weights_of h.weights) (weights_fine h.weights v.fields.weights) (omega (arith, v.fields.docs)) (entry_size h.two) (directory_at h) (blocks_at h) None None r.heads s.blocks v.joined v.kinds (last ∙ sym count) (heads_kinds (entry_size h.two) r.words h.blocks s.directory s.blocks) is.bytes.blocks shaped (heads_bounded (heads_in (entry_size h.two) r.words h.blocks s.directory) s.blocks) is.hold.blocks v.parted;
       end = last ∙ sym count;
     }
 

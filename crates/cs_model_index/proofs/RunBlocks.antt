@@ -9,10 +9,10 @@
 --   run_writable   a block of few words can hold its posts
 --   run_facts      what is asked holds of each run of a partition
 --   run_closed     a run that another one follows is closed
-use Rattle.std.proofs.Common.{◌≡◌, ℕ, zero, suc, ◌+◌, ◌*◌, ◌<◌, ◌≤◌, ◌^◌, ◌&&◌, ◌||◌, Bool, true, false, true≢false, not, cond, List, [], ◌∷◌, ◌++◌, length, take, drop, refl, sym, ap, ◌∙◌, arith, take_at, drop_at}
+use Rattle.std.proofs.Common.{◌≡◌, ℕ, zero, suc, ◌+◌, ◌-◌, ◌*◌, ◌<◌, ◌≤◌, ◌^◌, ◌&&◌, ◌||◌, Bool, true, false, true≢false, not, cond, List, [], ◌∷◌, ◌++◌, length, take, drop, refl, sym, ap, ◌∙◌, arith, take_at, drop_at}
 use Rattle.std.specs.Bool.{◌==◌}
 use Rattle.std.specs.Prelude.{Some, filter, nat_le, nat_lt}
-use Rattle.std.specs.List.{AllByRecursion, list_any, list_all, sum_by, count_by, range_with_len}
+use Rattle.std.specs.List.{AllByRecursion, list_any, list_all, sum_by, count_by, range_with_len, slice_get}
 use Rattle.std.specs.List.Sorted.{IsStrictlySortedBy}
 use Rattle.std.specs.Ordering.{nat_cmp}
 use Rattle.std.specs.Cmp.Lexicographic.{slice_cmp}
@@ -27,9 +27,10 @@ use Rattle.std.proofs.lemmas.Slice.Eq.{bytes_eq-Decides}
 use Rattle.cs_base.specs.content.Orders.{by_spot}
 use Rattle.cs_base.specs.declared.content.doc.Post.{Post}
 use Rattle.cs_base.specs.declared.content.doc.Row.{Row}
-use Rattle.cs_base.specs.declared.content.limits.TheConstants.{MAX_ROWS, MAX_WORDS}
+use Rattle.cs_base.specs.declared.content.limits.TheConstants.{MAX_ROWS, MAX_WORDS, MAX_DOCS}
 use Rattle.cs_base.specs.declared.content.scores.Weights.{Weights}
 use Rattle.cs_model.specs.Words.{is_filled}
+use Rattle.cs_model_index.specs.BlockBounds.{doc_or_zero, least_of, greatest_of}
 use Rattle.cs_model_index.specs.Blocks.{AreWritable, IsShaped, block_bytes}
 use Rattle.cs_model_index.specs.BlockRules.{is_scored, IsBlock}
 use Rattle.cs_model_index.specs.FileRules.{has_rows, is_closed, is_of_one_kind, is_sized}
@@ -96,6 +97,20 @@ facet_kind (b ∷ w) = facet_kind_at (is_facet (b ∷ w)) b _
 
 same_kind : (v w : List ℕ) → is_alike v w ≡ true → is_facet v ≡ is_facet w
 same_kind v w h = facet_kind v ∙ ap is_filled ((bytes_eq-Decides (kind_of v) (kind_of w)).0 h) ∙ sym (facet_kind w)
+
+-- ---- bounds
+small_at : (docs : ℕ) (rs : List Post) (k : ℕ) → docs ≤ MAX_DOCS → AllByRecursion (λ p. p.doc < docs) rs → doc_or_zero (slice_get rs k) < 2 ^ 32
+small_at docs [] k few h = omega arith
+small_at docs (r ∷ rs) zero few h = omega (arith, few, h.0)
+small_at docs (r ∷ rs) (suc k) few h = small_at docs rs k few h.1
+
+least_small : (docs : ℕ) (rs : List Post) → docs ≤ MAX_DOCS → AllByRecursion (λ p. p.doc < docs) rs → least_of rs < 2 ^ 32
+unfolding least_of
+least_small docs rs few h = small_at docs rs 0 few h
+
+greatest_small : (docs : ℕ) (rs : List Post) → docs ≤ MAX_DOCS → AllByRecursion (λ p. p.doc < docs) rs → greatest_of rs < 2 ^ 32
+unfolding greatest_of
+greatest_small docs rs few h = small_at docs rs (length rs - 1) few h
 
 -- ---- a run
 pub record RunFacts (weights : Weights) (ws : Run) (rows : List Row) (docs target lo : ℕ) (run : Run) : Type 0 where
@@ -168,9 +183,9 @@ module _ (ws : Run) (rows : List Row) (are : AreRows ws rows) where
     words = All-from_recursion (λ p. (lo ≤ p.word) × (p.word < lo + 2 ^ 16)) (block_of ws rows run) (all_then (λ p. (lo ≤ p.word) × (p.word < lo + length run)) (λ p. (lo ≤ p.word) × (p.word < lo + 2 ^ 16)) (λ p h. (h.0, omega (arith, h.1, short))) (block_of ws rows run) (words_in lo run is));
   }
 
-  pub run_facts : (weights : Weights) (docs target lo : ℕ) (run : Run) → IsAt ws lo run → is_run target (count_in rows) run ≡ true → length ws ≤ MAX_WORDS → length (block_of ws rows run) ≤ MAX_ROWS
+  pub run_facts : (weights : Weights) (docs target lo : ℕ) (run : Run) → IsAt ws lo run → is_run target (count_in rows) run ≡ true → length ws ≤ MAX_WORDS → length (block_of ws rows run) ≤ MAX_ROWS → docs ≤ MAX_DOCS
       → AllByRecursion (λ p. p.doc < docs) (block_of ws rows run) → AllByRecursion (λ p. is_scored weights (is_facet (word_at ws p.word)) p ≡ true) (block_of ws rows run) → RunFacts weights ws rows docs target lo run
-  run_facts weights docs target lo run is fit within few docs_in scored =
+  run_facts weights docs target lo run is fit within few many docs_in scored =
       let posts : List Post = block_of ws rows run in
       let n : ℕ = length posts in
       let len : ℕ = length (block_bytes posts lo) in
@@ -189,7 +204,7 @@ module _ (ws : Run) (rows : List Row) (are : AreRows ws rows) where
       let facet : Bool = is_facet (word_at run 0) in
       record {
         some = some;
-        fits = record { lo = omega (arith, end); words = omega (arith, end); rows = omega (arith, few); len = omega (arith, few, bytes.1); facet = ap is_facet (sym (first_word ws rows are.up are.known lo run is some)) };
+        fits = record { lo = omega (arith, end); words = omega (arith, end); rows = omega (arith, few); len = omega (arith, few, bytes.1); least = least_small docs posts many docs_in; greatest = greatest_small docs posts many docs_in; facet = ap is_facet (sym (first_word ws rows are.up are.known lo run is some)) };
         shaped = record { size_is = refl; rows = more; least = bytes.0; most = bytes.1; words = end };
         block = record {
           count = refl;

@@ -24,7 +24,7 @@ use Rattle.cs_model_index.specs.BlockRules.{judged, rows_read}
 use Rattle.cs_model_index.specs.FileRules.{Placed, laid, last_value, place_of_item, break_of, is_length, words_break, is_onward, words_end, is_joined, is_sized, in_file, blocks_break}
 use Rattle.cs_model_index.specs.Layout.{vocabulary_bytes, offsets_from, title_bytes, blocks_bytes}
 use Rattle.cs_model_index.specs.Sections.{vocabulary_in, titles_in, blocks_in}
-use Rattle.cs_model_index.specs.declared.limits.TheConstants.{NUMBER_BYTES, ENTRY_BYTES}
+use Rattle.cs_model_index.specs.declared.limits.TheConstants.{NUMBER_BYTES}
 use Rattle.cs_model_index.proofs.NumbersLemmas.{IsBytes, IsBytes-take, IsBytes-drop, all_from_bytes}
 
 -- ---- items
@@ -146,18 +146,18 @@ end_is (h ∷ hs) =
     let less : length (h ∷ hs) - 1 ≡ length hs = omega arith in
     ap (λ (n : ℕ). words_end (slice_get (h ∷ hs) n)) less ∙ end_got h hs
 
-abbrev Joined : ℕ → Option BlockHead → List BlockHead → Type 0
-Joined at last hs = AllByRecursion (λ i. is_joined i.last i.value ≡ true) (laid (λ h. ENTRY_BYTES) at last hs)
+abbrev Joined : ℕ → ℕ → Option BlockHead → List BlockHead → Type 0
+Joined e at last hs = AllByRecursion (λ i. is_joined i.last i.value ≡ true) (laid (λ h. e) at last hs)
 
-abbrev Sized : ℕ → Option BlockHead → List BlockHead → Type 0
-Sized at last hs = AllByRecursion (λ i. is_sized i.value ≡ true) (laid (λ h. ENTRY_BYTES) at last hs)
+abbrev Sized : ℕ → ℕ → Option BlockHead → List BlockHead → Type 0
+Sized e at last hs = AllByRecursion (λ i. is_sized i.value ≡ true) (laid (λ h. e) at last hs)
 
-pub ends_rise : (at : ℕ) (last : Option BlockHead) (hs : List BlockHead) → Joined at last hs → words_end last ≤ end_from (words_end last) hs
+pub ends_rise : (e at : ℕ) (last : Option BlockHead) (hs : List BlockHead) → Joined e at last hs → words_end last ≤ end_from (words_end last) hs
 unfolding end_from laid
-ends_rise at last [] h = omega arith
-ends_rise at last (g ∷ hs) h =
+ends_rise e at last [] h = omega arith
+ends_rise e at last (g ∷ hs) h =
     let here : g.lo ≡ words_end last = eqb-true _ _ (and_parts _ _ h.0).0 in
-    let rest : g.lo + g.words ≤ end_from (g.lo + g.words) hs = ends_rise (at + 16) (Some g) hs h.1 in
+    let rest : g.lo + g.words ≤ end_from (g.lo + g.words) hs = ends_rise e (at + e) (Some g) hs h.1 in
     omega (arith, here, rest)
 
 -- heads of so many bytes, one behind the other
@@ -165,20 +165,20 @@ unfoldable pub AreShaped : List BlockHead → ℕ → Type 0
 AreShaped [] size = size ≡ 0
 AreShaped (h ∷ hs) size = IsShaped h h.len × (h.len ≤ size) × AreShaped hs (size - h.len)
 
-pub shapes : (at : ℕ) (last : Option BlockHead) (hs : List BlockHead) (size : ℕ) → Joined at last hs → Sized at last hs → end_from (words_end last) hs ≤ MAX_WORDS → sum_by (λ h. h.len) hs ≡ size → AreShaped hs size
+pub shapes : (e at : ℕ) (last : Option BlockHead) (hs : List BlockHead) (size : ℕ) → Joined e at last hs → Sized e at last hs → end_from (words_end last) hs ≤ MAX_WORDS → sum_by (λ h. h.len) hs ≡ size → AreShaped hs size
 unfolding end_from laid AreShaped
-shapes at last [] size j s end sum = sym sum
-shapes at last (h ∷ hs) size j s end sum =
+shapes e at last [] size j s end sum = sym sum
+shapes e at last (h ∷ hs) size j s end sum =
     let p = and_parts _ _ s.0 in
     let q = and_parts _ _ p.1 in
     let rows : h.words ≤ h.rows = leb-true _ _ p.0 in
     let least : 8 * h.rows ≤ h.len = leb-true _ _ q.0 in
     let most : h.len ≤ 12 * h.rows = leb-true _ _ q.1 in
-    let rise : h.lo + h.words ≤ end_from (h.lo + h.words) hs = ends_rise (at + 16) (Some h) hs j.1 in
+    let rise : h.lo + h.words ≤ end_from (h.lo + h.words) hs = ends_rise e (at + e) (Some h) hs j.1 in
     let parts = sum_by-cons (λ (h : BlockHead). h.len) h hs in (
       record { size_is = refl; rows = rows; least = least; most = most; words = omega (arith, rise, end) },
       omega (arith, parts, sum),
-      shapes (at + 16) (Some h) hs (size - h.len) j.1 s.1 end (omega (arith, parts, sum)),
+      shapes e (at + e) (Some h) hs (size - h.len) j.1 s.1 end (omega (arith, parts, sum)),
     )
 
 -- ---- the blocks

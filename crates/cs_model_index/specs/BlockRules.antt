@@ -46,7 +46,7 @@ gap_number gaps = unwrap_or (first_code gaps) 0
 abbrev pub gap_len : List ℕ → ℕ
 gap_len gaps = length (code (gap_number gaps))
 
--- the first place where no code stands or a byte is left over; of no codes and no bytes None, and where bytes end early their end
+-- the first place where no code stands or a byte is left over; of no codes and no bytes None, and where no byte is left for a code the end
 unfoldable pub codes_break : ℕ → ℕ → List ℕ → Option ℕ
 codes_break zero at [] = None
 codes_break zero at (b ∷ gaps) = Some at

@@ -13,7 +13,7 @@
 --   ReadingFollowsBlocks  that follows from the laws of blocks
 --   ReadAreCorpora        the corpus that is read of an index file is a corpus
 --   ReadCorporaFollowBlocks  that follows from the laws of blocks
-use Rattle.std.specs.Prelude.{◌≡◌, ℕ, ◌^◌, ◌<◌, ◌≤◌, true, List, length, All}
+use Rattle.std.specs.Prelude.{◌≡◌, ℕ, ◌^◌, ◌<◌, ◌≤◌, Bool, true, List, length, All}
 use Rattle.std.specs.List.{sum_by}
 use Rattle.std.specs.Str.{IsUtf8}
 use Rattle.cs_base.specs.declared.content.limits.TheConstants.{MAX_DOCS, MAX_WORDS, MAX_ROWS, MAX_LINE_BYTES}
@@ -24,13 +24,13 @@ use Rattle.cs_model_index.specs.BlockLaws.{AcceptedAreBlocks, OneReading}
 use Rattle.cs_model_index.specs.BlockRules.{is_scored}
 use Rattle.cs_model_index.specs.FileRules.{is_word, IsIndexFile}
 use Rattle.cs_model_index.specs.Images.{Image, IsImage, image_posts}
-use Rattle.cs_model_index.specs.Layout.{title_bytes, file}
+use Rattle.cs_model_index.specs.Layout.{title_bytes, file_in}
 use Rattle.cs_model_index.specs.Numbered.{word_at}
 use Rattle.cs_model_index.specs.Partitions.{is_facet}
-use Rattle.cs_model_index.specs.Sections.{image_of, file_corpus}
+use Rattle.cs_model_index.specs.Sections.{header_of, image_of, file_corpus}
 use Rattle.cs_model_index.specs.declared.limits.TheConstants.{MAX_TARGET}
 
--- within the limits of collections, with titles of fewer than 2^32 bytes together; the image of the empty corpus has them for each target from 1 to MAX_TARGET
+-- within the limits of collections, with titles of fewer than 2^32 bytes together; the image of the empty corpus has them for each target from 1 to MAX_TARGET and weights from 1
 pub record HasLimits (i : Image) : Type 0 where
   pub few_docs : length i.titles ≤ MAX_DOCS
   pub texts : All IsUtf8 i.titles
@@ -47,7 +47,7 @@ pub record HasLimits (i : Image) : Type 0 where
 
 -- of bytes, each below 256
 abbrev pub AcceptedAreFiles : Type 0
-AcceptedAreFiles = (b : List ℕ) → All (λ x. x < 2 ^ 8) b → IsIndexFile b → file (image_of b) ≡ b
+AcceptedAreFiles = (b : List ℕ) → All (λ x. x < 2 ^ 8) b → IsIndexFile b → file_in (header_of b).two (image_of b) ≡ b
 
 -- it follows from the laws of blocks
 abbrev pub FilesFollowBlocks : Type 0
@@ -55,7 +55,7 @@ FilesFollowBlocks = AcceptedAreBlocks → OneReading → AcceptedAreFiles
 
 -- and no other image is read of it
 abbrev pub FilesAreAccepted : Type 0
-FilesAreAccepted = (k : Corpus) (target : ℕ) (w : Weights) (i : Image) → IsCorpus k → IsImage k target w i → HasLimits i → IsIndexFile (file i) × (image_of (file i) ≡ i)
+FilesAreAccepted = (two : Bool) (k : Corpus) (target : ℕ) (w : Weights) (i : Image) → IsCorpus k → IsImage k target w i → HasLimits i → IsIndexFile (file_in two i) × (image_of (file_in two i) ≡ i)
 
 -- it follows from the law of blocks
 abbrev pub ImagesFollowBlocks : Type 0

@@ -3,8 +3,8 @@
 -- Source: this engine's own.
 --
 -- The rules have numbers, since these are printed. Those from 1 to 12 are tried in order, each only where those before it hold. Then 13
--- to 17 are tried block by block: the first block that breaks one counts, by `judged`. Rule 18 is tried last. The place of a rule is
--- that of the first item, in the order of the file, that breaks it; places count from the file's first byte.
+-- to 17 are tried block by block: the first block that breaks one counts, by `judged`. Rule 18 is tried behind them, and rule 19 last, in
+-- version 2 alone. The place of a rule is that of the first item, in the order of the file, that breaks it; places count from the file's first byte.
 --
 --   Placed X                     a value of a section, the one before it, the one behind it, and its place
 --   laid size at last xs         values that lie one behind the other from a place on
@@ -19,7 +19,8 @@
 --   is_of_one_kind words h       a block's words are few and of one kind
 --   is_sized h                   its rows and bytes are as many as they may be
 --   has_rows, is_closed, is_parted       each word of a block has a row, and the block has as many words as it may have
---   header_rules .. parting_rules        the rules of each section, in their order
+--   is_bound p                   a head has these bounds
+--   header_rules .. parting_rules, bound_rules      the rules of each section, in their order
 --   blocks_break w docs at heads bytes    the first rule of 13 to 17 that a block breaks, the blocks in their order
 --   file_rules b r               all rules, in the order in which they are tried
 --   damage b                     the first broken rule and its place; None where all rules hold
@@ -37,14 +38,14 @@ use Rattle.cs_base.specs.declared.content.scores.Weights.{Weights}
 use Rattle.cs_base.specs.declared.content.limits.TheConstants.{MAX_DOCS, MAX_WORDS, MAX_ROWS, MAX_WORD_BYTES, MAX_PLAIN_WORD_BYTES, MAX_LINE_BYTES}
 use Rattle.cs_model.specs.Collection.{has_name_form, is_colon}
 use Rattle.cs_model.specs.First.{unless, first_reason}
+use Rattle.cs_model_index.specs.WeightsField.{is_field, weights_of}
 use Rattle.cs_model.specs.Words.{is_filled, is_word_char}
 use Rattle.cs_model_index.specs.BlockRules.{broken_at, judged}
-use Rattle.cs_model_index.specs.Layout.{Header, MAGIC}
+use Rattle.cs_model_index.specs.Layout.{Header, MAGIC, MAGIC2, entry_size}
 use Rattle.cs_model_index.specs.Numbered.{word_at}
 use Rattle.cs_model_index.specs.Partitions.{is_facet, is_alike, is_one_kind, is_light, is_full}
 use Rattle.cs_model_index.specs.Sections.{Contents, contents_of, size_by, vocabulary_at, offsets_at, titles_at, directory_at, blocks_at}
-use Rattle.cs_model_index.specs.WeightsField.{is_field, weights_of}
-use Rattle.cs_model_index.specs.declared.limits.TheConstants.{HEADER_BYTES, NUMBER_BYTES, ENTRY_BYTES, MAX_BLOCK_WORDS, MAX_TARGET}
+use Rattle.cs_model_index.specs.declared.limits.TheConstants.{HEADER_BYTES, NUMBER_BYTES, MAX_BLOCK_WORDS, MAX_TARGET}
 
 -- ---- items of a section
 -- the first value has none before it, and the last none behind it
@@ -87,11 +88,11 @@ field_breaks h =
     ∷ unless (is_field h.weights) 40
     ∷ []
 
--- the header is whole, it begins with MAGIC, its numbers are in range, and the file is as long as they say
+-- the header is whole, it begins as one of the two versions does, its numbers are in range, and the file is as long as they say
 abbrev pub header_rules : List ℕ → Header → List (Option Broken)
 header_rules b h =
     tried 1 (unless (nat_le HEADER_BYTES (length b)) (length b))
-    ∷ tried 2 (unless (bytes_eq (take 8 b) MAGIC) 0)
+    ∷ tried 2 (unless (bytes_eq (take 8 b) MAGIC || bytes_eq (take 8 b) MAGIC2) 0)
     ∷ tried 3 (first_reason (field_breaks h))
     ∷ tried 4 (unless (length b == size_by h) (length b))
     ∷ []
@@ -184,7 +185,7 @@ is_sized h = nat_le h.words h.rows && (nat_le (8 * h.rows) h.len && nat_le h.len
 -- is that of an entry, or the directory's end where an end or a sum is wrong
 abbrev pub directory_rules : Contents → List (Option Broken)
 directory_rules r =
-    let items = laid (λ h. ENTRY_BYTES) (directory_at r.header) None r.heads in
+    let items = laid (λ h. entry_size r.header.two) (directory_at r.header) None r.heads in
     let end = blocks_at r.header in
     tried 10 (option_or (break_of (λ i. is_joined i.last i.value) items) (unless (words_end (last_value r.heads) == r.header.words) end))
     ∷ tried 11 (break_of (λ i. is_of_one_kind r.words i.value) items)
@@ -202,7 +203,7 @@ blocks_break w docs at [] bytes = None
 blocks_break w docs at (h ∷ hs) bytes = option_or (option_map (in_file at) (judged w h docs (take h.len bytes))) (blocks_break w docs (at + h.len) hs (drop h.len bytes))
 
 -- ---- rule 18: the parts of the words
--- a block: what the directory says of it, and its posts
+-- a block: its head and its posts
 abbrev pub Block : Type 0
 Block = BlockHead × List Post
 
@@ -222,7 +223,16 @@ is_parted target words i = has_rows i.value && (is_light target i.value.0.words 
 
 -- a place is that of an entry
 abbrev pub parting_rules : Contents → List (Option Broken)
-parting_rules r = tried 18 (break_of (is_parted r.header.target r.words) (laid (λ p. ENTRY_BYTES) (directory_at r.header) None (zip r.heads r.blocks))) ∷ []
+parting_rules r = tried 18 (break_of (is_parted r.header.target r.words) (laid (λ p. entry_size r.header.two) (directory_at r.header) None (zip r.heads r.blocks))) ∷ []
+
+-- ---- rule 19: the bounds of the blocks
+-- the head's bounds are these
+abbrev pub is_bound : BlockHead × (ℕ × ℕ) → Bool
+is_bound p = p.0.least == p.1.0 && p.0.greatest == p.1.1
+
+-- each entry names the bounds of its block's rows, which the heads that are read have; in version 2 alone, and a place is that of an entry
+abbrev pub bound_rules : Contents → List (Option Broken)
+bound_rules r = (if r.header.two then tried 19 (break_of (λ i. is_bound i.value) (laid (λ p. entry_size r.header.two) (directory_at r.header) None (zip r.heads r.bounds))) else None) ∷ []
 
 -- ---- the first broken rule
 -- the rules in the order in which they are tried, each as it is broken
@@ -233,7 +243,8 @@ file_rules b r =
     ++ (title_rules r
     ++ (directory_rules r
     ++ (blocks_break (weights_of r.header.weights) r.header.docs (blocks_at r.header) r.heads r.bytes.blocks
-    ∷ parting_rules r))))
+    ∷ (parting_rules r
+    ++ bound_rules r)))))
 
 -- the first rule that bytes break, with its place; None where they break none
 unfoldable pub damage : List ℕ → Option Broken

@@ -2,14 +2,15 @@
 --
 -- Source: this engine's own.
 --
---   Image                     titles by document from 0, words by number, and of each block what the directory says and its posts, in
---                             the order of the file; the target, and the weights of the rows
+--   Image                     titles by document from 0, words by number, and of each block its head and its posts, in the
+--                             order of the file; the target, and the weights of the rows
 --   count_in rows w           how many rows have a word; 0 for a word that isn't there
 --   block_of words rows run   the posts of the rows that have a word of a run, in the order of the rows
---   head_of lo run block      what the directory says of a run whose first word has the number lo, and of its block
+--   head_of lo run block      the head of the block of a run whose first word has the number lo
 --   heads_from lo runs        the same of runs with their blocks, one behind the other
 --   image_by titles rows runs target w    the image of titles and rows, by the runs of their words
---   IsImage k target w i      i is the image of the corpus k, whose scores are those of the weights w, for a target; of the empty corpus it has no words and no blocks
+--   IsImage k target w i      i is the image of the corpus k for a target, and has the weights w, whatever the scores of k's rows are; of the empty corpus it has
+--                             no words and no blocks
 --   image_posts i             the posts of all blocks
 --   image_rows i              the rows that they stand for
 --   image_corpus i            the corpus that an image holds
@@ -27,6 +28,7 @@ use Rattle.cs_base.specs.declared.content.doc.Row.{Row}
 use Rattle.cs_base.specs.declared.content.scores.Weights.{Weights}
 use Rattle.cs_model.specs.Corpus.{Corpus, IsCorpus, by_number, distinct_words}
 use Rattle.cs_model_index.specs.Blocks.{block_bytes}
+use Rattle.cs_model_index.specs.BlockBounds.{least_of, greatest_of}
 use Rattle.cs_model_index.specs.Numbered.{word_at, numbered, rows_at}
 use Rattle.cs_model_index.specs.Partitions.{Count, is_facet, IsPartition}
 
@@ -47,9 +49,9 @@ count_in rows w = length (filter (λ r. bytes_eq r.word w) rows)
 abbrev pub block_of : List (List ℕ) → List Row → List (List ℕ) → List Post
 block_of words rows run = numbered words (filter (λ r. list_any (bytes_eq r.word) run) rows)
 
--- the number of its first word, how many words, rows and bytes it has, and whether they are facet words
+-- the number of its first word, how many words, rows and bytes it has, whether they are facet words, and the documents of its first and last row
 abbrev pub head_of : ℕ → List (List ℕ) → List Post → BlockHead
-head_of lo run block = record { lo = lo; words = length run; rows = length block; len = length (block_bytes block lo); facet = is_facet (word_at run 0) }
+head_of lo run block = record { lo = lo; words = length run; rows = length block; len = length (block_bytes block lo); facet = is_facet (word_at run 0); least = least_of block; greatest = greatest_of block }
 
 -- the first run's first word has the number lo, and each next run goes on where the one before ends; of no runs none
 unfoldable pub heads_from : ℕ → List (List (List ℕ) × List Post) → List BlockHead

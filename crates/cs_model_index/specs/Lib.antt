@@ -1,3 +1,4 @@
+pub mod BlockBounds
 pub mod BlockLaws
 pub mod BlockRules
 pub mod Blocks

@@ -12,8 +12,10 @@
 --   vocabulary_in k bytes            at most k words, each behind its length
 --   numbers_in k bytes          k numbers
 --   title_between, titles_in offsets bytes   the titles between each two offsets
---   head_in words entry         what an entry of the directory says of a block of these words
---   heads_in words k bytes      the same of k entries
+--   head_in words entry         what an entry of the directory says of a block of these words, its bounds aside
+--   heads_in e words k bytes    the same of k entries of e bytes each
+--   heads_by heads bytes        the same heads with the bounds of the rows of their blocks
+--   bounds_in e k bytes         the bounds that k entries of e bytes each name
 --   blocks_in heads bytes       the posts of each block
 --   Contents, contents_of b       all that is read
 --   image_of b                  the image that is read
@@ -21,25 +23,28 @@
 use Rattle.std.specs.Prelude.{ℕ, zero, suc, ◌+◌, ◌-◌, ◌*◌, List, [], ◌∷◌, map, take, drop}
 use Rattle.std.specs.Int.{w32, from_be_bytes}
 use Rattle.std.specs.List.{zip}
+use Rattle.std.specs.Str.{bytes_eq}
 use Rattle.cs_base.specs.declared.index.block.BlockHead.{BlockHead}
 use Rattle.cs_base.specs.declared.content.doc.Post.{Post}
 use Rattle.cs_model.specs.Corpus.{Corpus}
 use Rattle.cs_model_index.specs.BlockRules.{rows_read}
 use Rattle.cs_model_index.specs.Images.{Image, image_corpus}
-use Rattle.cs_model_index.specs.Layout.{Header}
+use Rattle.cs_model_index.specs.BlockBounds.{bounded}
+use Rattle.cs_model_index.specs.Layout.{Header, MAGIC2, entry_size}
 use Rattle.cs_model_index.specs.Numbered.{word_at}
-use Rattle.cs_model_index.specs.Partitions.{is_facet}
 use Rattle.cs_model_index.specs.WeightsField.{weights_of}
-use Rattle.cs_model_index.specs.declared.limits.TheConstants.{HEADER_BYTES, NUMBER_BYTES, ENTRY_BYTES}
+use Rattle.cs_model_index.specs.Partitions.{is_facet}
+use Rattle.cs_model_index.specs.declared.limits.TheConstants.{HEADER_BYTES, NUMBER_BYTES}
 
 -- ---- the header
 -- the highest byte first; 0 past the end
 unfoldable pub number_at : List ℕ → ℕ → ℕ
 number_at bytes at = from_be_bytes w32 (take NUMBER_BYTES (drop at bytes))
 
--- the numbers behind the first eight bytes; each 0 where there are no bytes
+-- the version by the first eight bytes, and the numbers behind them; each 0 where there are no bytes
 abbrev pub header_of : List ℕ → Header
 header_of b = record {
+  two = bytes_eq (take 8 b) MAGIC2;
   docs = number_at b 8;
   words = number_at b 12;
   rows = number_at b 16;
@@ -58,7 +63,7 @@ offsets_len h = NUMBER_BYTES * (h.docs + 1)
 
 -- one entry for each block
 abbrev pub directory_len : Header → ℕ
-directory_len h = ENTRY_BYTES * h.blocks
+directory_len h = entry_size h.two * h.blocks
 
 -- directly behind the header
 abbrev pub vocabulary_at : ℕ
@@ -126,14 +131,24 @@ title_between bytes p = take (p.1 - p.0) (drop p.0 bytes)
 abbrev pub titles_in : List ℕ → List ℕ → List (List ℕ)
 titles_in offsets bytes = map (title_between bytes) (zip offsets (drop 1 offsets))
 
--- the four numbers of an entry; the kind is that of the block's first word
+-- the first four numbers of an entry; the kind is that of the block's first word, and the bounds are 0 until they are put in
 abbrev pub head_in : List (List ℕ) → List ℕ → BlockHead
-head_in words entry = record { lo = number_at entry 0; words = number_at entry 4; rows = number_at entry 8; len = number_at entry 12; facet = is_facet (word_at words (number_at entry 0)) }
+head_in words entry = record { lo = number_at entry 0; words = number_at entry 4; rows = number_at entry 8; len = number_at entry 12; facet = is_facet (word_at words (number_at entry 0)); least = 0; greatest = 0 }
 
 -- the next k entries, as many even of no bytes
-unfoldable pub heads_in : List (List ℕ) → ℕ → List ℕ → List BlockHead
-heads_in words zero bytes = []
-heads_in words (suc k) bytes = head_in words bytes ∷ heads_in words k (drop ENTRY_BYTES bytes)
+unfoldable pub heads_in : ℕ → List (List ℕ) → ℕ → List ℕ → List BlockHead
+heads_in e words zero bytes = []
+heads_in e words (suc k) bytes = head_in words bytes ∷ heads_in e words k (drop e bytes)
+
+-- with the bounds of the rows of their blocks, which lie one after the other; of no heads there are none
+unfoldable pub heads_by : List BlockHead → List ℕ → List BlockHead
+heads_by [] bytes = []
+heads_by (h ∷ hs) bytes = bounded h (rows_read h (take h.len bytes)) ∷ heads_by hs (drop h.len bytes)
+
+-- the two last numbers of the next k entries; they count only in version 2
+unfoldable pub bounds_in : ℕ → ℕ → List ℕ → List (ℕ × ℕ)
+bounds_in e zero bytes = []
+bounds_in e (suc k) bytes = (number_at bytes 16, number_at bytes 20) ∷ bounds_in e k (drop e bytes)
 
 -- the blocks lie one after the other; of no heads there are none
 unfoldable pub blocks_in : List BlockHead → List ℕ → List (List Post)
@@ -149,6 +164,7 @@ pub record Contents : Type 0 where
   pub offsets : List ℕ
   pub titles : List (List ℕ)
   pub heads : List BlockHead
+  pub bounds : List (ℕ × ℕ)
   pub blocks : List (List Post)
 
 -- what a header and the bytes behind it give
@@ -156,7 +172,7 @@ abbrev pub contents_by : Header → Sections → Contents
 contents_by h s =
     let words = vocabulary_in h.words s.vocabulary in
     let offsets = numbers_in (h.docs + 1) s.offsets in
-    let heads = heads_in words h.blocks s.directory in
+    let heads = heads_by (heads_in (entry_size h.two) words h.blocks s.directory) s.blocks in
     record {
       header = h;
       bytes = s;
@@ -164,6 +180,7 @@ contents_by h s =
       offsets = offsets;
       titles = titles_in offsets s.titles;
       heads = heads;
+      bounds = bounds_in (entry_size h.two) h.blocks s.directory;
       blocks = blocks_in heads s.blocks;
     }
 

@@ -14,6 +14,7 @@ pub fn index_limits()
     ensures header { HEADER_BYTES ≡ 44 }
     ensures number { NUMBER_BYTES ≡ 4 }
     ensures entry { ENTRY_BYTES ≡ 16 }
+    ensures bounded_entry { BOUNDED_ENTRY_BYTES ≡ 24 }
 {}
 
 /// No words have two partitions, and no corpus has two images for one target and weights. The image of a corpus holds that corpus.

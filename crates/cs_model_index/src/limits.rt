@@ -15,5 +15,8 @@ pub const HEADER_BYTES: u32 = 44;
 /// The bytes of a number.
 pub const NUMBER_BYTES: u32 = 4;
 
-/// The bytes of what the directory says of one block.
+/// The bytes of what the directory says of one block, in version 1.
 pub const ENTRY_BYTES: u32 = 16;
+
+/// The same in version 2: its least and its greatest document stand behind.
+pub const BOUNDED_ENTRY_BYTES: u32 = 24;

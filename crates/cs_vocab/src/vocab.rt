@@ -55,6 +55,23 @@ impl Vocab {
         Vocab { words }
     }
 
+    /// The same vocabulary once more.
+    pub fn copy(&self, alloc: Global) -> Result<Vocab, Memory>
+        ensures ok { IfOk result (λ v. v ≡ self.now) }
+    {
+        let words = copied(alloc, self.words.as_slice())?;
+        Ok(Vocab {
+            words: Seq::from_vec(words),
+        })
+    }
+
+    /// The words, in their order.
+    pub fn as_slice(&self) -> &[Word]
+        ensures { result.now ≡ self.now }
+    {
+        self.words.as_slice()
+    }
+
     /// How many words it has.
     pub fn len(&self) -> u32
         ensures value { result ≡ length self.now }
@@ -105,6 +122,16 @@ impl Vocab {
         let count = words[lo..].partition_point(|word| begins_with(word, p));
         (lo as u32, (lo + count) as u32)
     }
+}
+
+fn copied(alloc: Global, words: &[Word]) -> Result<Vec<Word>, Memory>
+    ensures { IfOk result (λ v. v.items ≡ words.now) }
+{
+    let mut all = Vec::with_capacity(alloc, words.len())?;
+    for word in words {
+        all.push(word.copy(alloc)?)?;
+    }
+    Ok(all)
 }
 
 /// The vocabulary of words of which some may stand more than once.

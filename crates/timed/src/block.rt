@@ -92,13 +92,14 @@ fn made_block(alloc: Global, rows: u32, stride: u32) -> Result<Block, Memory> {
     bytes.extend_from_slice(locals.as_slice())?;
     bytes.extend_from_slice(places.as_slice())?;
     bytes.extend_from_slice(scores.as_slice())?;
-    let len = u32::try_from(bytes.len()).unwrap_or(0);
     let head = BlockHead {
         lo: 1000,
         words,
         rows,
-        len,
+        len: u32::try_from(bytes.len()).unwrap_or(0),
         facet: false,
+        least: 0,
+        greatest: doc,
     };
     Ok(Block {
         bytes,

@@ -31,7 +31,7 @@ pub struct Row {
     pub word: Word,
     /// The position in the document; 0 for a facet.
     pub pos: u32,
-    /// 4 in the title, 2 for a facet, 1 in the text.
+    /// What the row counts for: the weight of the column that the word stands in.
     pub score: u8,
 }
 
@@ -44,7 +44,7 @@ pub struct Post {
     pub word: u32,
     /// The position in the document; 0 for a facet.
     pub pos: u32,
-    /// 4 in the title, 2 for a facet, 1 in the text.
+    /// What the row counts for: the weight of the column that the word stands in.
     pub score: u8,
 }
 

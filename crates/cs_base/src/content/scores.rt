@@ -12,7 +12,7 @@ pub const TEXT_SCORE: u8 = 1;
 /// The greatest score that a row may have: it is kept in one byte.
 pub const MAX_ROW_SCORE: u32 = 255;
 
-/// What a collection's rows count for, by the column of their word: each from 1 to `MAX_ROW_SCORE`. Two may be equal.
+/// What rows count for, by the column of their word. Those of a collection are from 1 to `MAX_ROW_SCORE`, and two may be equal.
 #[derive(Clone, Copy, Debug, PartialEq, Eq)]
 pub struct Weights {
     /// The score of a title word's row.

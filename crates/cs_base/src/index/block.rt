@@ -1,6 +1,6 @@
-//! What the directory of an index file says of one block, and what may be wrong with a block.
+//! What is known of one block without its rows, and what may be wrong with an index file.
 
-/// The head of a block: which words it holds, and how large it is.
+/// The head of a block: which words it holds, how large it is, and from which document to which its rows lie.
 #[derive(Clone, Copy, Debug, PartialEq, Eq)]
 pub struct BlockHead {
     /// The number of its first word.
@@ -13,12 +13,16 @@ pub struct BlockHead {
     pub len: u32,
     /// Whether its words are facet words.
     pub facet: bool,
+    /// The least document of its rows.
+    pub least: u32,
+    /// The greatest.
+    pub greatest: u32,
 }
 
 /// A broken rule of an index file's form.
 #[derive(Clone, Copy, Debug, PartialEq, Eq)]
 pub struct Broken {
-    /// The rule's number, from 1 to 18.
+    /// The rule's number, from 1 to 19.
     pub n: u8,
     /// The place at which it is broken, in bytes.
     pub at: u32,

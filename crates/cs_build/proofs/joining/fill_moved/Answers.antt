@@ -1,7 +1,6 @@
-use Rattle.std.proofs.Common.{ℕ, ◌≡◌, ◌+◌, ◌<◌, ◌^◌, ◌++◌, List, length, drop, map, subst, sym, ap}
+use Rattle.std.proofs.Common.{◌+◌, ◌<◌, ◌^◌, List, length, drop, map, subst, sym, ap}
 use Rattle.std.specs.List.{All}
 use Rattle.cs_base.specs.declared.content.doc.Post.{Post}
-use Rattle.cs_cols.specs.declared.cols.Cols.{Cols}
 use Rattle.cs_build.specs.Joining.{held_posts, moved}
 use Rattle.cs_build.specs.WordRuns.{AreTaken, CanTake}
 use Rattle.cs_build.proofs.FillLemmas.{can_behind, can_front, none_taken, taken-append}

@@ -1,19 +1,18 @@
 use Rattle.cs_model_index.specs.FileRules.{is_joined}
-use Rattle.cs_model_index.specs.declared.limits.TheConstants.{ENTRY_BYTES}
 use Rattle.cs_file.proofs.FetchLemmas.{nothing}
 use Rattle.cs_file.proofs.LaidLemmas.{even_start, even_on, even_broken, even_end}
 use Rattle.cs_file.proofs.directory.bad_start.Goals as goal
 
 pub loop-i-init : goal.loop-i-init
-loop-i-init c = even_start (λ i. is_joined i.last i.value) ENTRY_BYTES c.args.first c.args.heads.now
+loop-i-init c = even_start (λ i. is_joined i.last i.value) c.args.entries.size c.args.entries.first c.args.heads.now
 
 pub returns-then-not-is_joined : goal.returns-then-not-is_joined
-returns-then-not-is_joined c = even_broken (λ i. is_joined i.last i.value) ENTRY_BYTES c.args.first c.args.heads.now c.loop-i.i c.entry_at.result nothing
-    c.is_joined.result c.loop-i-test.true c.entry_at.ensures c.is_joined.ensures c.if-not-is_joined.true c.loop-i.invariant
+returns-then-not-is_joined c = even_broken (λ i. is_joined i.last i.value) c.args.entries.size c.args.entries.first c.args.heads.now c.loop-i.i c.place.result nothing
+    c.is_joined.result c.loop-i-test.true c.place.ensures c.is_joined.ensures c.if-not-is_joined.true c.loop-i.invariant
 
 pub loop-i-preserved : goal.loop-i-preserved
-loop-i-preserved c = even_on (λ i. is_joined i.last i.value) ENTRY_BYTES c.args.first c.args.heads.now c.loop-i.i nothing c.is_joined.result
+loop-i-preserved c = even_on (λ i. is_joined i.last i.value) c.args.entries.size c.args.entries.first c.args.heads.now c.loop-i.i nothing c.is_joined.result
     c.loop-i-test.true c.is_joined.ensures c.if-not-is_joined.false c.loop-i.invariant
 
 pub returns : goal.returns
-returns c = even_end (λ i. is_joined i.last i.value) ENTRY_BYTES c.args.first c.args.heads.now c.loop-i.i c.loop-i-test.false c.loop-i.invariant
+returns c = even_end (λ i. is_joined i.last i.value) c.args.entries.size c.args.entries.first c.args.heads.now c.loop-i.i c.loop-i-test.false c.loop-i.invariant

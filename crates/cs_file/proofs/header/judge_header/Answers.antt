@@ -11,13 +11,13 @@ use Rattle.cs_file.proofs.header.judge_header.Goals as goal
 pub returns-in_err-tried-clause-exact : goal.returns-in_err-tried-clause-exact
 returns-in_err-tried-clause-exact c =
     judged_along _ _ c.from_residual.result (refused_magic c.args.bytes.now c.args.size c.unless.result _
-    (c.unless.ensures ∙ ap (λ b. unless b 0) c.eq.ensures) c.in_err-tried.ensures.judged) c.from_residual.ensures.1
+    (c.unless.ensures ∙ ap (λ b. unless b 0) c.is_known.ensures) c.in_err-tried.ensures.judged) c.from_residual.ensures.1
 
 pub returns-in_err-tried-2-clause-exact : goal.returns-in_err-tried-2-clause-exact
 returns-in_err-tried-2-clause-exact c =
     let field = c.broken_field.ensures ∙ ap (λ (h : Header). first_reason (field_breaks h)) c.header_in-header.ensures.numbers in
     judged_along _ _ c.from_residual-in_err-tried-2.result
-    (refused_field c.args.bytes.now c.args.size c.unless.result c.broken_field.result _ (c.unless.ensures ∙ ap (λ b. unless b 0) c.eq.ensures)
+    (refused_field c.args.bytes.now c.args.size c.unless.result c.broken_field.result _ (c.unless.ensures ∙ ap (λ b. unless b 0) c.is_known.ensures)
     c.in_ok-tried.ensures.judged field c.in_err-tried-2.ensures.judged) c.from_residual-in_err-tried-2.ensures.1
 
 pub returns-in_err-tried-3-clause-exact : goal.returns-in_err-tried-3-clause-exact
@@ -27,7 +27,7 @@ returns-in_err-tried-3-clause-exact c =
     (c.size.ensures.value ∙ ap (λ (h : Header). size_by h) c.header_in-header.ensures.numbers) in
     judged_along _ _ c.from_residual-in_err-tried-3.result
     (refused_size c.args.bytes.now c.args.size c.unless.result c.broken_field.result c.unless-2.result _
-    (c.unless.ensures ∙ ap (λ b. unless b 0) c.eq.ensures) c.in_ok-tried.ensures.judged field c.in_ok-tried-2.ensures.judged size
+    (c.unless.ensures ∙ ap (λ b. unless b 0) c.is_known.ensures) c.in_ok-tried.ensures.judged field c.in_ok-tried-2.ensures.judged size
     c.in_err-tried-3.ensures.judged) c.from_residual-in_err-tried-3.ensures.1
 
 pub returns-clause-exact : goal.returns-clause-exact
@@ -35,7 +35,7 @@ returns-clause-exact c =
     let field = c.broken_field.ensures ∙ ap (λ (h : Header). first_reason (field_breaks h)) c.header_in-header.ensures.numbers in
     let size = c.unless-2.ensures ∙ ap (λ n. unless (c.args.size == n) c.args.size)
     (c.size.ensures.value ∙ ap (λ (h : Header). size_by h) c.header_in-header.ensures.numbers) in
-    header_fine c.args.bytes.now c.args.size c.unless.result c.broken_field.result c.unless-2.result (c.unless.ensures ∙ ap (λ b. unless b 0) c.eq.ensures)
+    header_fine c.args.bytes.now c.args.size c.unless.result c.broken_field.result c.unless-2.result (c.unless.ensures ∙ ap (λ b. unless b 0) c.is_known.ensures)
     c.in_ok-tried.ensures.judged field c.in_ok-tried-2.ensures.judged size c.in_ok-tried-3.ensures.judged
 
 pub returns-clause-ranges : goal.returns-clause-ranges

@@ -1,4 +1,4 @@
-use Rattle.std.proofs.Common.{◌≡◌, ◌<◌, ◌^◌, sym, ap, subst, ◌∙◌, arith, Some}
+use Rattle.std.proofs.Common.{◌≡◌, ◌<◌, ◌^◌, true, sym, ap, subst, ◌∙◌, arith, Some}
 use Rattle.std.specs.List.{sum_by}
 use Rattle.cs_model_index.specs.Images.{Image}
 use Rattle.cs_model_index.specs.Layout.{Header, file, header_of_image, offsets_from}
@@ -33,7 +33,7 @@ view c = record {
 
 view_is : (c : After-blocks_at) → view c ≡ image_index c.args.image
 view_is c =
-    let h = header_of_image c.args.image in
+    let h = header_of_image true c.args.image in
     let numbers = c.header_of-header.ensures.numbers in
     let same = c.image.view_is in
     same_index _ h.docs _ h.target _ (titles_at h) _ (blocks_at h) _ (weights_of h.weights) _ c.args.image.words _ (offsets_from 0 c.args.image.titles) _ c.args.image.heads
@@ -54,8 +54,8 @@ places_of-requires c =
 
 pub invariant_of-result : goal.invariant_of-result
 invariant_of-result c = record {
-  index = index_kept (header_of_image c.args.image) (view c)
-      (subst (Kept (header_of_image c.args.image)) (sym (view_is c)) (kept_image c.args.image (read_again c)));
+  index = index_kept (header_of_image true c.args.image) (view c)
+      (subst (Kept (header_of_image true c.args.image)) (sym (view_is c)) (kept_image c.args.image (read_again c)));
   places = subst (λ hs. ArePlaces hs c.in_ok-places.places) c.as_slice-2.ensures c.in_ok-places.ensures;
 }
 

@@ -1,5 +1,6 @@
-use Rattle.std.proofs.Common.{arith}
-use Rattle.cs_file.proofs.PostingsLemmas.{decoded, decoded_few, decoded_within, part_is}
+use Rattle.std.proofs.Common.{arith, ap, ◌∙◌}
+use Rattle.cs_file.specs.Parting.{bare}
+use Rattle.cs_file.proofs.PostingsLemmas.{bounded_docs, decoded, decoded_few, decoded_within, part_is}
 use Rattle.cs_file.proofs.postings.judge_block.Goals as goal
 
 pub part_of-requires-clause-few : goal.part_of-requires-clause-few
@@ -20,4 +21,8 @@ returns-in-Ok-clause-part c =
     let read = decoded c.args.weights c.args.head.now c.args.docs c.args.bytes.now c.in-Ok.ensures.ok.0 c.new-rows.result.posts c.decode.new.into.posts c.words.result.now
     c.new-rows.ensures c.in-Ok.ensures.ok.1 c.in-Ok.ensures.ok.2 c.words.ensures in
     part_is c.args.weights c.requires.weights c.args.head.now c.args.docs c.args.bytes.now c.decode.new.into.posts c.words.result.now c.in_ok-part-in-Ok.part (omega arith) c.requires.shaped
-    read c.in_ok-part-in-Ok.ensures.head c.in_ok-part-in-Ok.ensures.whole c.in_ok-part-in-Ok.ensures.first
+    read (c.in_ok-part-in-Ok.ensures.head ∙ bounded_docs c.args.head.now c.decode.new.into.posts c.docs.result.now c.docs.ensures)
+    c.in_ok-part-in-Ok.ensures.whole c.in_ok-part-in-Ok.ensures.first
+
+pub returns-in-Ok-clause-bare : goal.returns-in-Ok-clause-bare
+returns-in-Ok-clause-bare c = ap bare c.in_ok-part-in-Ok.ensures.head

@@ -1,9 +1,10 @@
-use Rattle.std.proofs.Common.{◌≡◌, ◌+◌, [], ◌∷◌, length, slice_index_or, refl, sym, ap, subst, ◌∙◌, arith, length-append}
+use Rattle.std.proofs.Common.{◌≡◌, ◌+◌, map, slice_index_or, refl, sym, ap, subst, ◌∙◌, arith}
+use Rattle.cs_file.specs.Parting.{bare}
 use Rattle.cs_file.specs.HeaderView.{seen_header}
 use Rattle.cs_model_index.specs.Sections.{blocks_at}
 use Rattle.cs_file.proofs.BytesLemmas.{no_bytes}
 use Rattle.cs_file.proofs.FetchLemmas.{nothing}
-use Rattle.cs_file.proofs.PostingsLemmas.{BlocksRead, block_bytes_on, block_bytes_all, reading, reads_on, read_refused, read_all, at_next}
+use Rattle.cs_file.proofs.PostingsLemmas.{BlocksRead, bares_on, bares_all, block_bytes_on, block_bytes_all, reading, reads_on, read_refused, read_all, at_next}
 use Rattle.cs_file.proofs.StagesLemmas.{judged_along}
 use Rattle.cs_model_index.proofs.WeightsFieldLemmas.{weights_fine}
 use Rattle.cs_model.specs.Weights.{AreWeights}
@@ -15,7 +16,7 @@ loop-i-init g c = record {
       (c.requires.heads b t) c.blocks_at-at.ensures.value c.in_ok-parts.ensures;
   small = λ b t. no_bytes b (blocks_at (seen_header c.args.header.now));
   place = omega (arith, c.blocks_at-at.ensures.value);
-  count = ap length c.in_ok-parts.ensures;
+  alike = ap (map (λ p. bare p.head)) c.in_ok-parts.ensures;
   same = refl;
   lent = refl;
   quiet = refl;
@@ -46,7 +47,8 @@ loop-i-preserved g c =
       small = λ b t. block_bytes_on b hs (blocks_at h) c.loop-i.i c.loop-i.at c.loop-i-test.true c.loop-i.invariant.place (c.loop-i.invariant.small b t)
           (c.in_ok-part.ensures.small b (c.loop-i.invariant.same ∙ t));
       place = sym next ∙ at_next hs _ c.loop-i.i c.loop-i.at c.loop-i-test.true c.loop-i.invariant.place;
-      count = ap length c.in_ok-push_part.ensures ∙ length-append c.loop-i.parts.items (c.in_ok-part.part ∷ []) ∙ ap (λ n. n + 1) c.loop-i.invariant.count;
+      alike = ap (map (λ p. bare p.head)) c.in_ok-push_part.ensures
+          ∙ bares_on c.loop-i.parts.items hs c.loop-i.i c.in_ok-part.part c.loop-i-test.true c.in_ok-part.ensures.bare c.loop-i.invariant.alike;
       same = c.in_ok-part.ensures.bytes ∙ c.loop-i.invariant.same;
       lent = c.in_ok-part.ensures.lent ∙ c.loop-i.invariant.lent;
       quiet = c.in_ok-part.ensures.caused.quiet refl ∙ c.loop-i.invariant.quiet;
@@ -63,3 +65,6 @@ returns-clause-parts g c = λ b t. (read_all b (seen_header c.args.header.now) c
 pub returns-clause-small : goal.returns-clause-small
 returns-clause-small g c = λ b t. block_bytes_all b c.args.heads.now (blocks_at (seen_header c.args.header.now)) c.loop-i.i c.args.header.now.blocks_len
     c.loop-i-test.false c.requires.bytes (c.loop-i.invariant.small b t)
+
+pub returns-clause-bare : goal.returns-clause-bare
+returns-clause-bare g c = bares_all c.loop-i.parts.items c.args.heads.now c.loop-i.i c.loop-i-test.false c.loop-i.invariant.alike

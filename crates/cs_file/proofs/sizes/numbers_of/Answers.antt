@@ -1,4 +1,4 @@
-use Rattle.std.proofs.Common.{◌≡◌, ℕ, List, [], ◌∷◌, refl, sym, subst, ap, ◌∙◌, arith, length, map}
+use Rattle.std.proofs.Common.{◌≡◌, ℕ, true, List, [], ◌∷◌, refl, sym, subst, ap, ◌∙◌, arith, length, map}
 use Rattle.std.proofs.lemmas.List.{length-map}
 use Rattle.std.proofs.lemmas.List.Elements.{recursion_from_All}
 use Rattle.std.specs.List.{sum_by, zip}
@@ -23,7 +23,7 @@ returns c =
     let is = blocks_len_is c.image.inside.heads posts r.one_each (recursion_from_All BlockFits (zip c.image.inside.heads posts) r.blocks) in
     let lens : List ℕ = c.vocabulary_len.result ∷ c.titles_len.result ∷ c.blocks_len.result ∷ c.field_of.result ∷ [] in
     let numbers : List ℕ = c.len.result ∷ c.len-2.result ∷ c.rows_in.result ∷ c.len-3.result ∷ c.image.inside.target ∷ lens in
-    subst (λ i. numbers ≡ header_numbers (header_of_image i)) c.image.view_is (
+    subst (λ i. numbers ≡ header_numbers (header_of_image true i)) c.image.view_is (
     same_numbers _ _ _ _ _ _ _ _ _ _ _ _ _ _ _ _ _ _
     c.len.ensures
     c.len-2.ensures.value

@@ -14,18 +14,18 @@ use Rattle.cs_file.proofs.writing.put_blocks.Goals as goal
 
 pub put_block-requires : goal.put_block-requires
 put_block-requires g c =
-    let p = pair_at c.args.heads.now c.args.blocks.now c.loop-i.i (record { lo = 0; words = 0; rows = 0; len = 0; facet = false }) c.index-blocks-i.result
+    let p = pair_at c.args.heads.now c.args.blocks.now c.loop-i.i (record { lo = 0; words = 0; rows = 0; len = 0; facet = false; least = 0; greatest = 0 }) c.index-blocks-i.result
     c.requires.one_each c.loop-i-test.true c.index-blocks-i.is in
     (subst BlockFits p.at (All-get_or BlockFits (zip c.args.heads.now (map (λ c. c.posts) c.args.blocks.now)) c.loop-i.i
-    (record { lo = 0; words = 0; rows = 0; len = 0; facet = false }, c.index-blocks-i.result.posts) p.inside c.requires.fit)).writable
+    (record { lo = 0; words = 0; rows = 0; len = 0; facet = false; least = 0; greatest = 0 }, c.index-blocks-i.result.posts) p.inside c.requires.fit)).writable
 
 pub loop-i-preserved : goal.loop-i-preserved
 loop-i-preserved g c =
-    let p = pair_at c.args.heads.now c.args.blocks.now c.loop-i.i (record { lo = 0; words = 0; rows = 0; len = 0; facet = false }) c.index-blocks-i.result
+    let p = pair_at c.args.heads.now c.args.blocks.now c.loop-i.i (record { lo = 0; words = 0; rows = 0; len = 0; facet = false; least = 0; greatest = 0 }) c.index-blocks-i.result
     c.requires.one_each c.loop-i-test.true c.index-blocks-i.is in
     record {
       told = item_put _ _ (λ p. block_bytes p.1 p.0.lo) (zip c.args.heads.now (map (λ c. c.posts) c.args.blocks.now)) c.loop-i.i
-          (record { lo = 0; words = 0; rows = 0; len = 0; facet = false }, c.index-blocks-i.result.posts) _ _ _ _ _ p.inside
+          (record { lo = 0; words = 0; rows = 0; len = 0; facet = false; least = 0; greatest = 0 }, c.index-blocks-i.result.posts) _ _ _ _ _ p.inside
           (sym (ap (λ (p : BlockHead × List Post). block_bytes p.1 p.0.lo) p.at)) c.loop-i.invariant.told c.in_ok-put_block.ensures.ok;
       quiet = c.in_ok-put_block.ensures.caused.quiet refl ∙ c.loop-i.invariant.quiet;
       lent = c.in_ok-put_block.ensures.lent ∙ c.loop-i.invariant.lent;
@@ -34,15 +34,15 @@ loop-i-preserved g c =
 pub returns-in_err-put_block-clause-err : goal.returns-in_err-put_block-clause-err
 unfolding blocks_bytes
 returns-in_err-put_block-clause-err g c =
-    let p = pair_at c.args.heads.now c.args.blocks.now c.loop-i.i (record { lo = 0; words = 0; rows = 0; len = 0; facet = false }) c.index-blocks-i.result
+    let p = pair_at c.args.heads.now c.args.blocks.now c.loop-i.i (record { lo = 0; words = 0; rows = 0; len = 0; facet = false; least = 0; greatest = 0 }) c.index-blocks-i.result
     c.requires.one_each c.loop-i-test.true c.index-blocks-i.is in
     on_err c.from_residual.result _ (item_fails _ _ (λ p. block_bytes p.1 p.0.lo) (zip c.args.heads.now (map (λ c. c.posts) c.args.blocks.now)) c.loop-i.i
-    (record { lo = 0; words = 0; rows = 0; len = 0; facet = false }, c.index-blocks-i.result.posts) _ _ _ _ p.inside
+    (record { lo = 0; words = 0; rows = 0; len = 0; facet = false; least = 0; greatest = 0 }, c.index-blocks-i.result.posts) _ _ _ _ p.inside
     (sym (ap (λ (p : BlockHead × List Post). block_bytes p.1 p.0.lo) p.at)) c.loop-i.invariant.told c.in_err-put_block.ensures.err)
 
 pub returns-clause-ok : goal.returns-clause-ok
 unfolding blocks_bytes
 returns-clause-ok g c =
     items_put _ _ (λ p. block_bytes p.1 p.0.lo) (zip c.args.heads.now (map (λ c. c.posts) c.args.blocks.now)) c.loop-i.i
-    (record { lo = 0; words = 0; rows = 0; len = 0; facet = false }, []) _ _
+    (record { lo = 0; words = 0; rows = 0; len = 0; facet = false; least = 0; greatest = 0 }, []) _ _
     (omega (arith, c.loop-i-test.false, pairs_many c.args.heads.now (map (λ c. c.posts) c.args.blocks.now))) c.loop-i.invariant.told

@@ -1,11 +1,11 @@
-use Rattle.std.proofs.Common.{◌≡◌, List, ℕ, ◌++◌, map, Option, ap, subst}
+use Rattle.std.proofs.Common.{◌≡◌, true, List, ℕ, ◌++◌, map, Option, ap, subst}
 use Rattle.cs_base.specs.outside.Outside.{GrewByPrefix}
 use Rattle.cs_base.specs.declared.index.block.BlockHead.{BlockHead}
 use Rattle.cs_base.specs.declared.content.scores.Weights.{Weights}
 use Rattle.cs_base.proofs.GrewLemmas.{on_err}
 use Rattle.cs_cols.specs.declared.cols.Cols.{Cols}
 use Rattle.cs_model_index.specs.Images.{Image}
-use Rattle.cs_model_index.specs.Layout.{file, header_bytes, header_of_image, vocabulary_bytes, offset_bytes, title_bytes, directory_bytes, blocks_bytes}
+use Rattle.cs_model_index.specs.Layout.{file, file_in, header_bytes, header_of_image, vocabulary_bytes, offset_bytes, title_bytes, directory_bytes, blocks_bytes}
 use Rattle.cs_file.specs.Putting.{HasPut}
 use Rattle.cs_file.proofs.SinkPuts.{then_ok, then_err, put_on, fails_first, fails_on}
 use Rattle.cs_file.proofs.writing.put_sections.Goals as goal
@@ -16,12 +16,12 @@ whole : {i : Image} {ws titles : List (List ℕ)} {heads : List BlockHead} {bloc
     → let view : Image = record { titles = titles; words = ws; heads = heads; blocks = map (λ (b : Cols). b.posts) blocks; target = target; weights = w } in
     view ≡ i
     → ts ≡ titles → hs ≡ heads → bs ≡ blocks
-    → header_bytes (header_of_image i) ++ (vocabulary_bytes ws
-    ++ (offset_bytes ts ++ (title_bytes ts ++ (directory_bytes hs ++ blocks_bytes hs (map (λ (b : Cols). b.posts) bs))))) ≡ file i
-unfolding file
+    → header_bytes (header_of_image true i) ++ (vocabulary_bytes ws
+    ++ (offset_bytes ts ++ (title_bytes ts ++ (directory_bytes true hs ++ blocks_bytes hs (map (λ (b : Cols). b.posts) bs))))) ≡ file i
+unfolding file_in
 whole {i} e f g h =
-    rw (f, g, h) (ap (λ (k : Image). header_bytes (header_of_image i)
-    ++ (vocabulary_bytes k.words ++ (offset_bytes k.titles ++ (title_bytes k.titles ++ (directory_bytes k.heads ++ blocks_bytes k.heads k.blocks))))) e)
+    rw (f, g, h) (ap (λ (k : Image). header_bytes (header_of_image true i)
+    ++ (vocabulary_bytes k.words ++ (offset_bytes k.titles ++ (title_bytes k.titles ++ (directory_bytes true k.heads ++ blocks_bytes k.heads k.blocks))))) e)
 
 -- a section whose put fails, and one that was put before it
 fails : (w : Option (List ℕ)) (h : List ℕ) {u : Option (List ℕ)} {all b : List ℕ} → b ≡ all → GrewByPrefix w (h ++ b) u → GrewByPrefix w (h ++ all) u
@@ -36,7 +36,7 @@ then_put {w} {v} {u} {h} {k} {m} {a} {b} p q = put_on w h a b v u k m p q
 pub returns-in_err-put_header-clause-err : goal.returns-in_err-put_header-clause-err
 returns-in_err-put_header-clause-err g c =
     let is = whole c.image.view_is c.as_slice-titles.ensures c.as_slice-heads.ensures c.as_slice-blocks.ensures in
-    on_err c.from_residual.result _ (fails _ _ is (fails_first _ _ (header_bytes (header_of_image c.args.image.now)) _ _ c.in_err-put_header.ensures.err))
+    on_err c.from_residual.result _ (fails _ _ is (fails_first _ _ (header_bytes (header_of_image true c.args.image.now)) _ _ c.in_err-put_header.ensures.err))
 
 pub returns-in_err-put_vocabulary-clause-err : goal.returns-in_err-put_vocabulary-clause-err
 returns-in_err-put_vocabulary-clause-err g c =
@@ -64,7 +64,7 @@ returns-in_err-put_directory-clause-err g c =
     let is = whole c.image.view_is c.as_slice-titles.ensures c.as_slice-heads.ensures c.as_slice-blocks.ensures in
     on_err c.from_residual-in_err-put_directory.result _
     (fails _ _ is (after _ c.in_ok-put_header.ensures.ok (after _ c.in_ok-put_vocabulary.ensures.ok (after _ c.in_ok-put_offsets.ensures.ok
-    (after _ c.in_ok-put_titles.ensures.ok (fails_first _ _ (directory_bytes c.as_slice-heads.result.now) _ _ c.in_err-put_directory.ensures.err))))))
+    (after _ c.in_ok-put_titles.ensures.ok (fails_first _ _ (directory_bytes true c.as_slice-heads.result.now) _ _ c.in_err-put_directory.ensures.err))))))
 
 pub returns-clause-ok : goal.returns-clause-ok
 returns-clause-ok g c =
