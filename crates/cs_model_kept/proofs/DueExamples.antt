@@ -26,7 +26,7 @@ words =
 abbrev division : Division
 division = record {
   words = words;
-  heads = record { lo = 0; words = 3; rows = 4; len = 32; facet = true } ∷ record { lo = 3; words = 3; rows = 3; len = 24; facet = true } ∷ record { lo = 6; words = 20; rows = 23; len = 184; facet = false } ∷ [];
+  heads = record { lo = 0; words = 3; rows = 4; len = 32; facet = true; least = 0; greatest = 2 } ∷ record { lo = 3; words = 3; rows = 3; len = 24; facet = true; least = 0; greatest = 2 } ∷ record { lo = 6; words = 20; rows = 23; len = 184; facet = false; least = 0; greatest = 2 } ∷ [];
 }
 
 abbrev asks : List ℕ → List (List ℕ) → Request

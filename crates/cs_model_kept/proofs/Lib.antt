@@ -11,6 +11,8 @@ pub mod KeptExamples
 pub mod KeptListLemmas
 pub mod NarrowLemmas
 pub mod PlanLemmas
+pub mod SharpExamples
+pub mod SharpLemmas
 pub mod ShorterQueries
 pub mod ShutPieces
 pub mod TypedLemmas

@@ -4,3 +4,4 @@ pub mod InnerQueries
 pub mod KeptLaws
 pub mod KeptList
 pub mod KeptListLaws
+pub mod Sharp

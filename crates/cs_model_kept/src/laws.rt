@@ -2,6 +2,7 @@
 ghost use Rattle.std.specs.Prelude.{◌≡◌, ◌^◌};
 ghost use Rattle.cs_model_kept.specs.InnerQueries.{InnerQueriesAreOfGrammar};
 ghost use Rattle.cs_model_kept.specs.KeptLaws.{HitsAreOver, BasesListHits, EntriesExtend, EntriesAreSteps, EntriesNarrow};
+ghost use Rattle.cs_model_kept.specs.Sharp.{FilesAreDivided, SharpIsLess, SkippedHaveNoRow};
 ghost use Rattle.cs_model_kept.specs.KeptListLaws.{FirstPartsAreOfGrammar, FrontsStayGood, HeldAreOwn, ListsStayGood, PlansServe, ShorterAreOfGrammar, PlansAreHeld, FrontsPlanAlike, FrontsUseAlike, OthersAreNew, NumbersPlanAlike, NumbersUseAlike, NumbersFrontAlike, NumbersPutAlike, NumbersKeepAlike};
 
 use crate::limits::*;
@@ -73,4 +74,12 @@ pub fn entries_are_numbered()
     ensures fronts { NumbersFrontAlike }
     ensures puts { NumbersPutAlike }
     ensures kept { NumbersKeepAlike }
+{}
+
+/// A block that isn't read for its bounds has no row in a hit. No more may be read where bounds are used than where they aren't,
+/// where each word lies in one block, as in an index file.
+pub fn sharp_reads()
+    ensures skipped { SkippedHaveNoRow }
+    ensures less { SharpIsLess }
+    ensures divided { FilesAreDivided }
 {}
