@@ -13,7 +13,7 @@ use Rattle.cs_model.specs.First.{first_reason}
 use Rattle.cs_model.specs.Outputs.{ScriptFault, MayPut, OneEach, AnswersFirst, PutAll, line_fault, first_fault, is_readable, readable_lines, put_of}
 use Rattle.cs_model.proofs.OutputLemmas.{one_each-push, answers-first, put_of-push}
 use Rattle.cs_top.specs.Answering.{Costs, worst}
-use Rattle.cs_top.specs.CommandLine.{Ending, done, usage, refused, damaged, absent, failed, no_memory, script_refused, changed}
+use Rattle.cs_top.specs.CommandLine.{Ending, done, usage, refused, damaged, absent, failed, no_memory, script_refused, changed, merge_refused}
 use Rattle.cs_top.specs.Met.{Wrote}
 use Rattle.cs_top.specs.ScriptEndings.{ScriptEnds, ShortTally, Tally, StopsAt, Reaches, EndsAt}
 use Rattle.cs_top.specs.declared.lines.Place.{Place}
@@ -138,6 +138,7 @@ module _ {A : MayPut} {all left : List (ℕ × List ℕ)} {old now : Option (Lis
     stops (absent name) l ls new n is st = absurd st
     stops no_memory l ls new n is st = absurd st
     stops changed l ls new n is st = absurd st
+    stops (merge_refused r) l ls new n is st = absurd st
 
     -- a file failed
     pub unread : (new : Option (List ℕ)) (n : ℕ) → new ≡ now → Rose count n → Ended failed new n
@@ -160,6 +161,7 @@ some_of A (damaged rule at) l w n m st = absurd st
 some_of A (absent name) l w n m st = absurd st
 some_of A no_memory l w n m st = absurd st
 some_of A changed l w n m st = absurd st
+some_of A (merge_refused r) l w n m st = absurd st
 
 module _ (s : List ℕ) (p : Place) {A : MayPut} {all : List (ℕ × List ℕ)} {old now : Option (List ℕ)} {came : Came} {before count : ℕ} (h : HasAnswered A all (lines_at s p) old now came before count) where
   left_at : (q : Place) (l : List ℕ) → lines (drop p.at s) ≡ l ∷ lines (drop q.at s) → q.number ≡ p.number + 1 → lines_at s p ≡ kept (enumerate_from q.number (l ∷ lines (drop q.at s)))

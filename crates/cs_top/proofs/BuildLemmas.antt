@@ -3,6 +3,7 @@
 --   begun_by     a name was made and holds some first ones of the bytes, whole or not
 --   grown_all    bytes that were added whole are some first ones of them
 --   made_or_not  a name that should be made is as it was or holds nothing
+--   cut_by       so it stands at the ending of a stop of the writing
 use Rattle.std.proofs.Common.{◌≡◌, ◌⊎◌, inl, inr, ℕ, Bool, true, false, List, ◌++◌, cond, sym, ◌∙◌, ap, refl, arith}
 use Rattle.std.specs.Prelude.{Option, Some, None, length, take}
 use Rattle.std.specs.Option.{option_map, is_some, ForSome}
@@ -13,7 +14,12 @@ use Rattle.cs_base.specs.outside.Outside.{File, Held, Sets, Grew, GrewByPrefix, 
 use Rattle.std.specs.Str.{bytes_eq}
 use Rattle.cs_base.proofs.NameMaps.{get_after, overwritten, same, same_name}
 use Rattle.cs_base.proofs.FileLemmas.{get_itself}
-use Rattle.cs_top.specs.Build.{IsBegun}
+use Rattle.cs_model_index.specs.Images.{Image}
+use Rattle.cs_model_index.specs.Layout.{file}
+use Rattle.cs_top.specs.Build.{BuildWrites, IsBegun}
+use Rattle.cs_top.specs.Views.{IsDevice, stop_ending}
+use Rattle.cs_top.specs.declared.ending.RunStop.{RunStop}
+use Rattle.cs_top.specs.declared.ending.RunStop.TheVariants as stops
 
 -- what is held under a name that is held
 held_is : (o : Option File) → is_some o ≡ true → (f : File) × (o ≡ Some f)
@@ -52,3 +58,15 @@ made_or_not old new n b (inr e) = inr (empty_file, 0, refl, e)
 -- bytes that were added whole are some first ones of them
 pub grown_all : (old : Option (List ℕ)) (b : List ℕ) (new : Option (List ℕ)) → Grew old b new → GrewByPrefix old b new
 grown_all old b new e = (length b, e ∙ ap (λ x. option_map (λ w. w ++ x) old) (sym (take_all (length b) b (omega arith))))
+
+-- a run stops so only where a call failed or memory ran out
+pub cut_by : (s : RunStop) (h : Held) (i : List ℕ) (x : Image) (now : Option Held) → IsDevice s → IsBegun (Some h) i (file x) now → BuildWrites (stop_ending s) h i x now
+cut_by stops.Failed h i x now kind is = is
+cut_by stops.Memory h i x now kind is = is
+cut_by stops.Usage h i x now kind is = absurd kind
+cut_by (stops.Collection f) h i x now kind is = absurd kind
+cut_by (stops.Absent n) h i x now kind is = absurd kind
+cut_by (stops.Script f) h i x now kind is = absurd kind
+cut_by (stops.Damaged rule at) h i x now kind is = absurd kind
+cut_by stops.Changed h i x now kind is = absurd kind
+cut_by (stops.Merge f) h i x now kind is = absurd kind

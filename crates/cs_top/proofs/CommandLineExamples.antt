@@ -4,7 +4,7 @@ use Rattle.std.specs.Prelude.{Some, None, codes}
 use Rattle.cs_model.specs.Collection.{bad_facet, in_line, too_many_words}
 use Rattle.cs_model_sources.specs.SourceRefusals.{of_line, of_lines}
 use Rattle.cs_model_sources.specs.declared.flat.Why.TheVariants.{Header, Field}
-use Rattle.cs_top.specs.CommandLine.{command_of, build, ask, serve, trial, refused, absent, line_of}
+use Rattle.cs_top.specs.CommandLine.{command_of, build, ask, serve, trial, upgrade, merge, refused, absent, line_of}
 use Rattle.cs_top.specs.Import.{of_collection, of_csv, of_jsonl, refused_words}
 use Rattle.cs_top.specs.declared.words.Form.TheVariants as forms
 
@@ -19,6 +19,14 @@ words-import = refl
 -- a collection isn't imported
 words-form : command_of (codes "import" ∷ codes "tsv" ∷ codes "T" ∷ codes "I" ∷ []) ≡ None
 words-form = refl
+
+-- two index files and a third name
+words-merge : command_of (codes "merge" ∷ codes "A" ∷ codes "B" ∷ codes "N" ∷ []) ≡ Some (merge (codes "A") (codes "B") (codes "N"))
+words-merge = refl
+
+-- one is upgraded
+words-upgrade : command_of (codes "upgrade" ∷ codes "I" ∷ codes "N" ∷ []) ≡ Some (upgrade (codes "I") (codes "N"))
+words-upgrade = refl
 
 -- a word too few
 words-few : command_of (codes "ask" ∷ codes "C" ∷ []) ≡ None

@@ -8,15 +8,18 @@ use Rattle.cs_model.specs.Outputs.{MayPut, script_lines}
 use Rattle.cs_model.specs.Corpus.{Corpus}
 use Rattle.cs_model_index.specs.BlockRules.{broken_at}
 use Rattle.cs_model_index.specs.Images.{Image}
+use Rattle.cs_model_index.specs.Sections.{image_of}
 use Rattle.cs_top.specs.ScriptRuns.{AskStops, AskTold, CanAsk, CanReplay, ReplayCaused, ReplayScript, ReplayStops, ReplayTold}
 use Rattle.cs_top.specs.Build.{BuildStops, BuildTold, BuildWrites, CanBuild}
-use Rattle.cs_top.specs.CommandLine.{Command, build, ask, replay, serve, trial, Ending, done, usage, refused, damaged, absent, failed, no_memory, script_refused, changed, status, Caused, CausedBy}
+use Rattle.cs_top.specs.CommandLine.{Command, build, ask, replay, serve, trial, upgrade, merge, Ending, done, usage, refused, damaged, absent, failed, no_memory, script_refused, changed, merge_refused, status, Caused, CausedBy}
 use Rattle.cs_top.specs.Import.{IsAccepted, IsRefused, Refusal, of_collection, of_csv, of_jsonl}
+use Rattle.cs_top.specs.Merge.{CanMerge, MergeStops, MergeTold}
 use Rattle.cs_top.specs.Met.{Listened, Met, Wrote, held_bytes}
 use Rattle.cs_top.specs.CommandRuns.{Completes, Ran}
 use Rattle.cs_top.specs.ScriptEndings.{ScriptEnds, IsReadable}
 use Rattle.cs_top.specs.Serve.{CanServe, ServeCaused, ServeEnds, ServeStops, ServeTold}
 use Rattle.cs_top.specs.Trial.{TrialEnds}
+use Rattle.cs_top.specs.Upgrade.{CanUpgrade, UpgradeStops, UpgradeTold}
 use Rattle.cs_top.specs.declared.words.Form.{Form}
 use Rattle.cs_top.specs.declared.words.Form.TheVariants as forms
 use Rattle.cs_top.proofs.ServeEndings.{served_all}
@@ -55,6 +58,7 @@ stopped usage h c s can a calm = absurd a
 stopped (script_refused f) h c s can a calm = absurd a
 stopped (damaged rule at) h c s can a calm = absurd a
 stopped changed h c s can a calm = absurd a
+stopped (merge_refused r) h c s can a calm = absurd a
 
 scripted : (A : MayPut) (e : Ending) (ls : List (ℕ × List ℕ)) (ts : List (List ℕ)) (w : Wrote) → IsReadable ls → ScriptEnds A e ls ts w → (e ≡ failed → ⊥) → IsWell e
 scripted A done ls ts w can a calm = inl refl
@@ -66,6 +70,7 @@ scripted A (damaged rule at) ls ts w can a calm = absurd a
 scripted A (absent n) ls ts w can a calm = absurd a
 scripted A no_memory ls ts w can a calm = absurd a
 scripted A changed ls ts w can a calm = absurd a
+scripted A (merge_refused r) ls ts w can a calm = absurd a
 
 told : (e : Ending) (h : Held) (c s : List ℕ) (w : Wrote) → AskTold e h c s w → CanAsk h c s → (e ≡ failed → ⊥) → IsWell e
 told e h c s w (inl a) can calm = stopped e h c s can a.0 calm
@@ -81,6 +86,7 @@ unmade form usage h c can a calm = absurd a
 unmade form (script_refused f) h c can a calm = absurd a
 unmade form (damaged rule at) h c can a calm = absurd a
 unmade form changed h c can a calm = absurd a
+unmade form (merge_refused r) h c can a calm = absurd a
 
 written : (e : Ending) (h : Held) (i : List ℕ) (x : Image) (now : Option Held) → BuildWrites e h i x now → (e ≡ failed → ⊥) → IsWell e
 written done h i x now a calm = inl refl
@@ -92,6 +98,7 @@ written (absent n) h i x now a calm = absurd a
 written (script_refused f) h i x now a calm = absurd a
 written (damaged rule at) h i x now a calm = absurd a
 written changed h i x now a calm = absurd a
+written (merge_refused r) h i x now a calm = absurd a
 
 built : (form : Form) (e : Ending) (h : Held) (c i : List ℕ) (now : Option Held) → BuildTold form e h c i now → CanBuild form h c → (e ≡ failed → ⊥) → IsWell e
 built form e h c i now (inl a) can calm = unmade form e h c can a.0 calm
@@ -111,6 +118,7 @@ unplayed usage h i s can a calm = absurd a
 unplayed (refused r) h i s can a calm = absurd a
 unplayed (script_refused f) h i s can a calm = absurd a
 unplayed changed h i s can a calm = absurd a
+unplayed (merge_refused r) h i s can a calm = absurd a
 
 played : (k : Corpus) (e : Ending) (ls : List (ℕ × List ℕ)) (before now : ℕ) (w : Wrote) → IsReadable ls → ReplayScript k e ls before now w → (e ≡ failed → ⊥) → IsWell e
 played k done ls before now w can a calm = inl refl
@@ -122,6 +130,7 @@ played k (damaged rule at) ls before now w can a calm = absurd a
 played k (absent n) ls before now w can a calm = absurd a
 played k no_memory ls before now w can a calm = absurd a
 played k changed ls before now w can a calm = absurd a
+played k (merge_refused r) ls before now w can a calm = absurd a
 
 replay_told : (e : Ending) (h : Held) (i s : List ℕ) (before now : ℕ) (w : Wrote) → ReplayTold e h i s before now w → CanReplay h i s → (e ≡ failed → ⊥) → IsWell e
 replay_told e h i s before now w (inl a) can calm = unplayed e h i s can a.0 calm
@@ -140,6 +149,7 @@ unserved usage h i can a calm = absurd a
 unserved (refused r) h i can a calm = absurd a
 unserved (script_refused f) h i can a calm = absurd a
 unserved changed h i can a calm = absurd a
+unserved (merge_refused r) h i can a calm = absurd a
 
 served : (e : Ending) (h : Held) (i p n : List ℕ) (before now : ℕ) (w : Wrote) (net : Listened) → ServeTold e h i p n before now w net → CanServe h i → (e ≡ failed → ⊥) → IsWell e
 served done h i p n before now w net a can calm = inl refl
@@ -151,9 +161,44 @@ served usage h i p n before now w net a can calm = absurd a
 served (refused r) h i p n before now w net a can calm = absurd a
 served (script_refused f) h i p n before now w net a can calm = absurd a
 served changed h i p n before now w net a can calm = absurd a
+served (merge_refused r) h i p n before now w net a can calm = absurd a
 
 no_failed_serve : (e : Ending) (fb fn ob on hb hn : ℕ) → ServeCaused e fb fn ob on hb hn → (Rose fb fn → ⊥) → (Rose ob on → ⊥) → (Rose hb hn → ⊥) → e ≡ failed → ⊥
 no_failed_serve e fb fn ob on hb hn cause files out hub is = elim (subst (λ x. ServeCaused x fb fn ob on hb hn) is cause).0 [ inl r ↦ files r | inr r ↦ elim r [ inl r ↦ out r | inr r ↦ hub r ] ]
+
+unread : (e : Ending) (h : Held) (i : List ℕ) → CanUpgrade h i → UpgradeStops e h i → (e ≡ failed → ⊥) → IsWell e
+unread (absent n) h i can a calm = absurd (missing (map.get h i) can.0 a.1)
+unread (damaged rule at) h i can a calm = let e : Some (broken_at rule at) ≡ None = sym a.1 ∙ can.1 in absurd cc
+unread no_memory h i can a calm = inr refl
+unread failed h i can a calm = absurd (calm refl)
+unread done h i can a calm = absurd a
+unread usage h i can a calm = absurd a
+unread (refused r) h i can a calm = absurd a
+unread (script_refused f) h i can a calm = absurd a
+unread changed h i can a calm = absurd a
+unread (merge_refused r) h i can a calm = absurd a
+
+upgraded : (e : Ending) (h : Held) (i n : List ℕ) (now : Option Held) → UpgradeTold e h i n now → CanUpgrade h i → (e ≡ failed → ⊥) → IsWell e
+upgraded e h i n now (inl a) can calm = unread e h i can a.0 calm
+upgraded e h i n now (inr a) can calm = written e h n (image_of (held_bytes h i)) now a.1 calm
+
+unmerged : (e : Ending) (h : Held) (a b : List ℕ) → CanMerge h a b → MergeStops e h a b → (e ≡ failed → ⊥) → IsWell e
+unmerged (absent n) h a b can (inl x) calm = absurd (missing (map.get h a) can.0.0.0 x.1)
+unmerged (absent n) h a b can (inr x) calm = absurd (missing (map.get h b) can.0.0.1 x.2)
+unmerged (damaged rule at) h a b can (held, inl x) calm = let e : Some (broken_at rule at) ≡ None = sym x ∙ can.0.1 in absurd cc
+unmerged (damaged rule at) h a b can (held, inr x) calm = let e : Some (broken_at rule at) ≡ None = sym x.1 ∙ can.0.2 in absurd cc
+unmerged (merge_refused r) h a b can x calm = let e : Some r ≡ None = sym x.1 ∙ can.1 in absurd cc
+unmerged no_memory h a b can x calm = inr refl
+unmerged failed h a b can x calm = absurd (calm refl)
+unmerged done h a b can x calm = absurd x
+unmerged usage h a b can x calm = absurd x
+unmerged (refused r) h a b can x calm = absurd x
+unmerged (script_refused f) h a b can x calm = absurd x
+unmerged changed h a b can x calm = absurd x
+
+merged : (e : Ending) (h : Held) (a b n : List ℕ) (now : Option Held) → MergeTold e h a b n now → CanMerge h a b → (e ≡ failed → ⊥) → IsWell e
+merged e h a b n now (inl x) can calm = unmerged e h a b can x.0 calm
+merged e h a b n now (inr x) can calm = written e h n x.0 now x.2 calm
 
 -- no other ending has this status
 only_done : (e : Ending) → status e ≡ 0 → e ≡ done
@@ -166,6 +211,7 @@ only_done failed is = absurd cc
 only_done no_memory is = absurd cc
 only_done (script_refused f) is = absurd cc
 only_done changed is = absurd cc
+only_done (merge_refused r) is = absurd cc
 
 tried : (e : Ending) (n : List ℕ) (w : Wrote) → TrialEnds e n w → (e ≡ failed → ⊥) → IsWell e
 tried done n w a calm = inl refl
@@ -177,6 +223,7 @@ tried (damaged rule at) n w a calm = absurd a
 tried (absent x) n w a calm = absurd a
 tried (script_refused f) n w a calm = absurd a
 tried changed n w a calm = absurd a
+tried (merge_refused r) n w a calm = absurd a
 
 pub completes : {H : Type 0} (e : Ending) (command : Option Command) (m : Met H) → Ran e command m → Completes command m (status e)
 completes e None m r = λ h held able. absurd able
@@ -192,3 +239,7 @@ completes e (Some (serve i p n)) m r = λ h held able. (
       served_all h i p n m.files_before m.files_now m.out m.net (subst (λ x. ServeEnds x i p n m.out m.net) is r.ends).0 (subst (λ x. ServeTold x h i p n m.files_before m.files_now m.out m.net) is (r.told h held)) calm sent,
 )
 completes e (Some (trial n)) m r = λ files out hub. tried e n m.out r.ends (no_failed_file e m.out.before m.out.now r.caused out)
+completes e (Some (upgrade i n)) m r = λ h held able files out hub.
+    upgraded e h i n m.held_now (r.told h held) able (no_failed_file e m.files_before m.files_now r.caused files)
+completes e (Some (merge a b n)) m r = λ h held able files out hub.
+    merged e h a b n m.held_now (r.told h held) able (no_failed_file e m.files_before m.files_now r.caused files)

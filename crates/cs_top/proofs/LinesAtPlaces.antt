@@ -4,7 +4,7 @@ use Rattle.std.specs.Prelude.{Option, Some, None}
 use Rattle.std.specs.Str.Lines.{lines}
 use Rattle.cs_base.specs.declared.content.limits.TheConstants.{MAX_SCRIPT_LINE_BYTES}
 use Rattle.cs_model.specs.Outputs.{MayPut, line_fault, script_line_too_long}
-use Rattle.cs_top.specs.CommandLine.{Ending, done, usage, refused, damaged, absent, failed, no_memory, script_refused, changed}
+use Rattle.cs_top.specs.CommandLine.{Ending, done, usage, refused, damaged, absent, failed, no_memory, script_refused, changed, merge_refused}
 use Rattle.cs_top.specs.Met.{Wrote}
 use Rattle.cs_top.specs.ScriptEndings.{StopsAt, IsFirstLine, EndsAt, Passes, Reaches}
 use Rattle.cs_top.specs.declared.lines.Place.{Place}
@@ -31,6 +31,7 @@ module _ (A : MayPut) (s l : List ℕ) (p : Place) (at : ℕ) (w : Wrote) (befor
   ends_at (absent n) (inr x) h = absurd h
   ends_at no_memory (inr x) h = absurd h
   ends_at changed (inr x) h = absurd h
+  ends_at (merge_refused r) (inr x) h = absurd h
 
   pub reaches_by : (q : Place) (old new : Option (List ℕ)) (came : Came) → IsFirstLine (drop p.at s) l (drop q.at s) → q.number ≡ p.number + 1 → Passes A (q.number, l) old new came before now → Reaches A s p q old new came before now
   reaches_by q old new came (inl is) n h = (l, is, n, h)

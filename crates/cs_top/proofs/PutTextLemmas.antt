@@ -17,7 +17,7 @@ use Rattle.cs_model.specs.Faults.{changed_text}
 use Rattle.cs_model.specs.Outputs.{IsChangedText, memory_text, put_of, read_text}
 use Rattle.cs_model.proofs.OutputLemmas.{put_of-push}
 use Rattle.cs_top.specs.Answering.{came_of_answer, line_bytes, worst}
-use Rattle.cs_top.specs.CommandLine.{CausedBy, Ending, done, usage, refused, damaged, absent, failed, no_memory, script_refused, changed}
+use Rattle.cs_top.specs.CommandLine.{CausedBy, Ending, done, usage, refused, damaged, absent, failed, no_memory, script_refused, changed, merge_refused}
 use Rattle.cs_top.specs.Met.{Wrote}
 use Rattle.cs_top.specs.PutTexts.{CutsLine, EndsBy, HasTextBy, IsLineText, IsOwnText, PutsLine, PutsTexts, TextBy, TextsBy}
 use Rattle.cs_top.specs.Views.{of_script, stop_ending}
@@ -119,6 +119,7 @@ module _ (came : Came) (old now : Option (List ℕ)) (first last : ℕ) (new : O
   puts_cut (absent name) p cut = absurd cut
   puts_cut no_memory p cut = absurd cut
   puts_cut changed p cut = absurd cut
+  puts_cut (merge_refused r) p cut = absurd cut
 
 -- ---- one line
 pub memory_put : HasTextBy answers.Memory

@@ -18,7 +18,7 @@ use Rattle.cs_engine.specs.Keeping.{EngineView, AreGood}
 use Rattle.cs_file.specs.Indexes.{IndexView, HasAllBlocks, StandsFor}
 use Rattle.cs_model_index.specs.Sections.{file_corpus}
 use Rattle.cs_top.specs.Answering.{AnswersOver, FileView, IsReplayed, IsThere, MayAnswer, bytes_there}
-use Rattle.cs_top.specs.CommandLine.{Ending, done, usage, refused, damaged, absent, failed, no_memory, script_refused, changed}
+use Rattle.cs_top.specs.CommandLine.{Ending, done, usage, refused, damaged, absent, failed, no_memory, script_refused, changed, merge_refused}
 use Rattle.cs_top.specs.Met.{Wrote, held_bytes}
 use Rattle.cs_top.specs.ScriptRuns.{ReplayScript}
 use Rattle.cs_top.specs.ScriptEndings.{ScriptEnds, ShortTally, Tally}
@@ -43,6 +43,7 @@ ends_by A B f (damaged rule at) ls ts w h = absurd h
 ends_by A B f (absent name) ls ts w h = absurd h
 ends_by A B f no_memory ls ts w h = absurd h
 ends_by A B f changed ls ts w h = absurd h
+ends_by A B f (merge_refused r) ls ts w h = absurd h
 
 some_none : (o : Option (List ℕ)) → is_some o ≡ true → o ≡ None → ⊥
 some_none None some none = absurd cc

@@ -6,15 +6,16 @@
 --   two_words, trial_words, import_words, serve_words, three_words      the command of a word of the table and of the words behind it
 --   command_of words                         the command; None where the words aren't in the table
 --   Ending                                   done, words not in the table, a refused source, a damaged index file, a file that isn't
---                                            held, a failed device, no memory, a refused line of the script, an index file that changed
+--                                            held, a failed device, no memory, a refused line of the script, an index file that changed,
+--                                            index files that aren't merged
 --   status e                                 the exit status
 --   line_of e                                the line on standard error; nothing where all was done
 --   SaysLine w line                          standard error grew by the line where its count didn't rise, else by a prefix of it
 --   CausedBy e before now                    a run ends by a failure only where this count rose; else the count stays as it was
 --   Caused e ..                              the same for the counts of files and of out: one of the two rose
 --
--- The table: build COLLECTION INDEX, ask COLLECTION SCRIPT, replay INDEX SCRIPT, serve INDEX PORT CONNS, trial N, import csv SOURCE INDEX,
--- import jsonl SOURCE INDEX.
+-- The table: build COLLECTION INDEX, ask COLLECTION SCRIPT, replay INDEX SCRIPT, serve INDEX PORT CONNS, trial N, upgrade INDEX NEW,
+-- import csv SOURCE INDEX, import jsonl SOURCE INDEX, merge INDEX1 INDEX2 NEW.
 use Rattle.std.specs.Prelude.{ℕ, Bool, ◌&&◌, nat_le, nat_lt, if◌then◌else◌, List, [], ◌∷◌, Option, Some, None, codes, ◌≡◌, ◌⊎◌, ◌≤◌, ◌++◌}
 use Rattle.std.specs.Str.{bytes_eq}
 use Rattle.cs_model.specs.Digits.{has_digits, number_of}
@@ -23,6 +24,7 @@ use Rattle.cs_base.specs.outside.Causes.{Rose}
 use Rattle.cs_base.specs.outside.Outside.{Grew, GrewByPrefix}
 use Rattle.cs_base.specs.declared.content.limits.TheConstants.{MAX_PORT_DIGITS, MAX_PORT, MAX_CONNECTIONS_DIGITS, MAX_CONNECTIONS, MAX_TRIAL_DIGITS, MAX_TRIAL}
 use Rattle.cs_model.specs.Outputs.{ScriptFault, fault_words}
+use Rattle.cs_model_merge.specs.Merges.{MergeRefusal, merge_words}
 use Rattle.cs_top.specs.Import.{Refusal, refused_words}
 use Rattle.cs_top.specs.Met.{Wrote}
 use Rattle.cs_top.specs.declared.words.Form.{Form}
@@ -35,6 +37,8 @@ pub data Command : Type 0 where
   replay : List ℕ → List ℕ → Command
   serve : List ℕ → List ℕ → List ℕ → Command
   trial : List ℕ → Command
+  upgrade : List ℕ → List ℕ → Command
+  merge : List ℕ → List ℕ → List ℕ → Command
 
 -- 1 to n digits, zeros in front included, whose number is from 1 to g; no word without bytes
 abbrev pub is_number : ℕ → ℕ → List ℕ → Bool
@@ -49,7 +53,8 @@ abbrev pub two_words : List ℕ → List ℕ → List ℕ → Option Command
 two_words c a b =
     if bytes_eq c (codes "build") then Some (build forms.Collection a b)
     else (if bytes_eq c (codes "ask") then Some (ask a b)
-    else some_if (bytes_eq c (codes "replay")) (replay a b))
+    else (if bytes_eq c (codes "replay") then Some (replay a b)
+    else some_if (bytes_eq c (codes "upgrade")) (upgrade a b)))
 
 -- `trial` with a number from 1 to `MAX_TRIAL`
 abbrev pub trial_words : List ℕ → List ℕ → Option Command
@@ -67,7 +72,9 @@ import_words form s i =
 
 -- a command of three words
 abbrev pub three_words : List ℕ → List ℕ → List ℕ → List ℕ → Option Command
-three_words c a b d = if bytes_eq c (codes "import") then import_words a b d else serve_words c a b d
+three_words c a b d =
+    if bytes_eq c (codes "import") then import_words a b d
+    else (if bytes_eq c (codes "merge") then Some (merge a b d) else serve_words c a b d)
 
 -- the command of the words behind the program's name; None of no words
 abbrev pub command_of : List (List ℕ) → Option Command
@@ -87,6 +94,7 @@ pub data Ending : Type 0 where
   no_memory : Ending
   script_refused : ScriptFault → Ending
   changed : Ending
+  merge_refused : MergeRefusal → Ending
 
 -- the exit status; 0 where all was done
 abbrev pub status : Ending → ℕ
@@ -99,11 +107,12 @@ status failed = 6
 status no_memory = 7
 status (script_refused f) = 8
 status changed = 9
+status (merge_refused r) = 10
 
 -- the line on standard error, with its ending; no bytes where all was done
 abbrev pub line_of : Ending → List ℕ
 line_of done = []
-line_of usage = codes "usage: complete build COLLECTION INDEX | ask COLLECTION SCRIPT | replay INDEX SCRIPT | serve INDEX PORT CONNS | trial N | import csv SOURCE INDEX | import jsonl SOURCE INDEX\n"
+line_of usage = codes "usage: complete build COLLECTION INDEX | ask COLLECTION SCRIPT | replay INDEX SCRIPT | serve INDEX PORT CONNS | trial N | upgrade INDEX NEW | import csv SOURCE INDEX | import jsonl SOURCE INDEX | merge INDEX1 INDEX2 NEW\n"
 line_of (refused r) = codes "collection: " ++ (refused_words r ++ 10 ∷ [])
 line_of (damaged rule at) = codes "index: rule " ++ (decimal rule ++ (codes " at " ++ (decimal at ++ 10 ∷ [])))
 line_of (absent name) = codes "absent: " ++ name ++ 10 ∷ []
@@ -111,6 +120,7 @@ line_of failed = codes "device failed\n"
 line_of no_memory = codes "memory\n"
 line_of (script_refused f) = codes "script: " ++ (fault_words f ++ 10 ∷ [])
 line_of changed = codes "index changed\n"
+line_of (merge_refused r) = codes "merge: " ++ (merge_words r ++ 10 ∷ [])
 
 -- standard error grew by the line where its count didn't rise, else by some first bytes of it
 pub record SaysLine (w : Wrote) (line : List ℕ) : Type 0 where

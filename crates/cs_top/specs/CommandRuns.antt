@@ -11,11 +11,13 @@ use Rattle.std.specs.Option.{ForSome}
 use Rattle.cs_base.specs.outside.Causes.{Rose}
 use Rattle.cs_base.specs.outside.Outside.{Held}
 use Rattle.cs_top.specs.Build.{BuildRan, CanBuild}
-use Rattle.cs_top.specs.CommandLine.{Command, build, ask, replay, serve, trial, Ending, usage}
+use Rattle.cs_top.specs.CommandLine.{Command, build, ask, replay, serve, trial, upgrade, merge, Ending, usage}
+use Rattle.cs_top.specs.Merge.{MergeRan, CanMerge}
 use Rattle.cs_top.specs.Met.{Met, LeavesAll}
 use Rattle.cs_top.specs.ScriptRuns.{AskRan, CanAsk, ReplayRan, CanReplay}
 use Rattle.cs_top.specs.Serve.{ServeRan, ServesAll, CanServe}
 use Rattle.cs_top.specs.Trial.{TrialRan}
+use Rattle.cs_top.specs.Upgrade.{UpgradeRan, CanUpgrade}
 
 -- a run that ends as x before it meets anything
 pub record Idle {H : Type 0} (x e : Ending) (m : Met H) : Type 0 where
@@ -30,6 +32,8 @@ Ran e (Some (ask c s)) m = AskRan e c s m
 Ran e (Some (replay i s)) m = ReplayRan e i s m
 Ran e (Some (serve i p n)) m = ServeRan e i p n m
 Ran e (Some (trial n)) m = TrialRan e n m
+Ran e (Some (upgrade i n)) m = UpgradeRan e i n m
+Ran e (Some (merge a b n)) m = MergeRan e a b n m
 
 -- files from which a command can do all; `trial` needs none
 abbrev pub IsAble : Option Command → Held → Type 0
@@ -38,6 +42,8 @@ IsAble (Some (ask c s)) h = CanAsk h c s
 IsAble (Some (replay i s)) h = CanReplay h i s
 IsAble (Some (serve i p n)) h = CanServe h i
 IsAble (Some (trial n)) h = Unit {0}
+IsAble (Some (upgrade i n)) h = CanUpgrade h i
+IsAble (Some (merge a b n)) h = CanMerge h a b
 IsAble None h = ⊥
 
 -- where no count rose all was done, or memory ran out

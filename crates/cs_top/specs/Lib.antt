@@ -4,10 +4,12 @@ pub mod CommandLine
 pub mod CommandRuns
 pub mod Filed
 pub mod Import
+pub mod Merge
 pub mod Met
 pub mod PutTexts
 pub mod ScriptEndings
 pub mod ScriptRuns
 pub mod Serve
 pub mod Trial
+pub mod Upgrade
 pub mod Views

@@ -16,6 +16,7 @@
 --   IsImportCause read b f       the same of the source b, which is translated so
 --   IsSourceCause form b f       the same of a source of any form
 --   collection_ending r          the ending of a run whose source has the refusal r, or no memory
+--   merge_ending r               the ending of a run whose index files have the refusal r to be merged, or no memory
 --   of_script s                  the stop of a run whose script stops
 --   stop_ending s, ended r       the ending of a run that stops, and of any run
 --   ReadsFiles h h' before now r     a call with this answer only read files: what they hold is as it was, and why their count rose
@@ -26,6 +27,9 @@
 --   IsStopCause form b s         where it is a fault of the source b, this has its cause there
 --   IsOfIndex s                  a stop of an index file: damage, or a call failed, or memory ran out
 --   IsDamage b s                 where it is damage of the bytes b, this is their first broken rule with its place
+--   IsOfWhole s                  a stop of an index file that is read whole: damage, a change, or a call failed, or memory ran out
+--   IsWholeCause b s             where it is damage of the bytes b, this is their first broken rule with its place; it is no change
+--   IsMergeCause a b s           a stop of images that are merged: it is a fault of the merge, and names its first refusal but for want of memory
 --   said_text s                  a line on standard error
 use Rattle.std.specs.Prelude.{◌≡◌, ℕ, true, List, [], ◌∷◌, ◌++◌, Option, Some, None, MatchOption, Result, Ok, Err, IfErr, OnOk, codes}
 use Rattle.std.specs.Fmt.{decimal}
@@ -37,6 +41,8 @@ use Rattle.cs_model.specs.Corpus.{refusal}
 use Rattle.cs_model.specs.Outputs.{ScriptFault, script_line_too_long, script_line_not_utf8}
 use Rattle.cs_model_index.specs.BlockRules.{broken_at}
 use Rattle.cs_model_index.specs.FileRules.{damage}
+use Rattle.cs_model_index.specs.Images.{Image}
+use Rattle.cs_model_merge.specs.Merges.{MergeRefusal}
 use Rattle.cs_model_sources.specs.CsvSources.{flat_of_csv}
 use Rattle.cs_model_sources.specs.JsonSources.{flat_of_jsonl}
 use Rattle.cs_model_sources.specs.SourceRefusals.{ImportRefusal, flat_refusal, of_line, of_lines, source_refusal}
@@ -45,7 +51,8 @@ use Rattle.cs_more.specs.declared.fault.FlatFault.{FlatFault}
 use Rattle.cs_more.specs.declared.fault.FlatFault.TheVariants as sizes
 use Rattle.cs_docs.specs.FaultRefusals.{refusal_of, rows_refusal_of, words_said}
 use Rattle.cs_build.specs.Building.{build_refusal_of}
-use Rattle.cs_top.specs.CommandLine.{Command, build, ask, replay, serve, trial, is_number, Ending, done, usage, refused, damaged, absent, failed, no_memory, script_refused, changed, CausedBy}
+use Rattle.cs_merge.specs.Merging.{IsCause, refusal_of as merge_refusal_of}
+use Rattle.cs_top.specs.CommandLine.{Command, build, ask, replay, serve, trial, upgrade, merge, is_number, Ending, done, usage, refused, damaged, absent, failed, no_memory, script_refused, changed, merge_refused, CausedBy}
 use Rattle.cs_top.specs.Answering.{FileView}
 use Rattle.cs_top.specs.Import.{Refusal, of_collection, of_csv, of_jsonl}
 use Rattle.cs_top.specs.Met.{HasToldSize, OfBytes}
@@ -78,6 +85,8 @@ seen_command (read.Ask c s) = ask c.now s.now
 seen_command (read.Replay i s) = replay i.now s.now
 seen_command (read.Serve i p n) = serve i.now p.now n.now
 seen_command (read.Trial n) = trial n.now
+seen_command (read.Upgrade i n) = upgrade i.now n.now
+seen_command (read.Merge a b n) = merge a.now b.now n.now
 
 -- the words of `serve` and of `trial` are such numbers; of another command nothing is said
 abbrev pub HasNumbers : Read → Type 0
@@ -156,6 +165,11 @@ abbrev pub collection_ending : Option Refusal → Ending
 collection_ending None = no_memory
 collection_ending (Some r) = refused r
 
+-- refused with the refusal, and without one for want of memory
+abbrev pub merge_ending : Option MergeRefusal → Ending
+merge_ending None = no_memory
+merge_ending (Some r) = merge_refused r
+
 -- variant by variant
 abbrev pub stop_ending : RunStop → Ending
 stop_ending stops.Usage = usage
@@ -166,6 +180,7 @@ stop_ending stops.Memory = no_memory
 stop_ending (stops.Script f) = script_refused (fault_seen f)
 stop_ending (stops.Damaged rule at) = damaged rule at
 stop_ending stops.Changed = changed
+stop_ending (stops.Merge f) = merge_ending (merge_refusal_of f)
 
 -- a run that doesn't stop is done
 abbrev pub ended : Result (Unit {0}) RunStop → Ending
@@ -224,7 +239,28 @@ abbrev pub IsDamage : List ℕ → RunStop → Type 0
 IsDamage b (stops.Damaged rule at) = damage b ≡ Some (broken_at rule at)
 IsDamage b s = Unit {0}
 
+-- a run stops there in no other way
+abbrev pub IsOfWhole : RunStop → Type 0
+IsOfWhole (stops.Damaged rule at) = Unit {0}
+IsOfWhole stops.Changed = Unit {0}
+IsOfWhole stops.Failed = Unit {0}
+IsOfWhole stops.Memory = Unit {0}
+IsOfWhole s = ⊥
+
+-- of a failed call and of want of memory nothing is said; a file that tells its bytes doesn't change, and is no source of another stop
+abbrev pub IsWholeCause : List ℕ → RunStop → Type 0
+IsWholeCause b (stops.Damaged rule at) = damage b ≡ Some (broken_at rule at)
+IsWholeCause b stops.Failed = Unit {0}
+IsWholeCause b stops.Memory = Unit {0}
+IsWholeCause b s = ⊥
+
+-- a run stops there in no other way
+abbrev pub IsMergeCause : Image → Image → RunStop → Type 0
+IsMergeCause a b (stops.Merge f) = IsCause a b f
+IsMergeCause a b s = ⊥
+
 -- its words with an LF behind them
 abbrev pub said_text : Said → List ℕ
 said_text (said.Words of line words) = of.now ++ (words_said line words.now ++ 10 ∷ [])
+said_text (said.Targets s t) = codes "merge: targets " ++ (decimal s ++ (codes " and " ++ (decimal t ++ codes " differ\n")))
 said_text (said.Damage rule at) = codes "index: rule " ++ (decimal rule ++ (codes " at " ++ (decimal at ++ 10 ∷ [])))

@@ -9,9 +9,11 @@ ghost use Rattle.cs_top.specs.Views.{ended};
 use crate::ask::ask;
 use crate::build::build;
 use crate::ending::{RunStop, status_of, tell};
+use crate::merge::merge;
 use crate::replay::replay;
 use crate::serve::serve;
 use crate::trial::trial;
+use crate::upgrade::upgrade;
 use crate::words::{Command, command_of};
 use cs_base::{Files, Hub, Sink};
 use std::alloc::Global;
@@ -22,7 +24,7 @@ use std::alloc::Global;
 /// table. 3: the collection or another source isn't accepted. 4: the index file is damaged. 5: a file to be read isn't held. 6: a call of `files`
 /// or `out` failed, or the hub's `listen` or `next`. 7: memory ran out, of a script before its first line and of connections
 /// before the first one. 8: a line of the script is too long or isn't UTF-8; the lines before
-/// it were answered. 9: the index file isn't what it was at opening.
+/// it were answered. 9: the index file isn't what it was at opening. 10: the two index files can't be merged.
 pub fn run<F: Files, H: Hub, O: Sink, E: Sink>(
     alloc: Global,
     words: &Vec<String>,
@@ -69,5 +71,7 @@ fn carry_out<'a, F: Files, H: Hub, O: Sink>(
             serve(alloc, index, port, conns, files, hub, out)
         }
         Some(Command::Trial { number }) => trial(alloc, number, out),
+        Some(Command::Upgrade { index, new }) => upgrade(alloc, index, new, files),
+        Some(Command::Merge { first, second, new }) => merge(alloc, first, second, new, files),
     }
 }

@@ -1,9 +1,10 @@
 //! How a run ends: its status, and what is said of it.
-ghost use Rattle.std.specs.Prelude.{◌≡◌, ◌++◌, ◌∷◌, []};
+ghost use Rattle.std.specs.Prelude.{◌≡◌, ◌++◌, ◌∷◌, [], codes};
 ghost use Rattle.cs_docs.specs.FaultRefusals.{reason_text};
+ghost use Rattle.cs_merge.specs.Merging.{refusal_of};
 ghost use Rattle.cs_top.specs.CommandLine.{status, line_of, SaysLine};
 ghost use Rattle.cs_top.specs.Met.{wrote};
-ghost use Rattle.cs_top.specs.Views.{collection_ending, ended, of_script, said_text, source_refusal_of, stop_ending};
+ghost use Rattle.cs_top.specs.Views.{collection_ending, ended, merge_ending, of_script, said_text, source_refusal_of, stop_ending};
 ghost use Rattle.cs_top.specs.declared.ending.RunStop.{RunStop};
 
 use crate::lines::{ScriptFault, ScriptStop};
@@ -11,9 +12,10 @@ use crate::said::{Said, put_said};
 use crate::sources::SourceFault;
 use cs_base::{Failed, Memory, Sink};
 use cs_docs::Reason;
+use cs_merge::MergeFault;
 
 const USAGE: &[u8] =
-    b"usage: complete build COLLECTION INDEX | ask COLLECTION SCRIPT | replay INDEX SCRIPT | serve INDEX PORT CONNS | trial N | import csv SOURCE INDEX | import jsonl SOURCE INDEX";
+    b"usage: complete build COLLECTION INDEX | ask COLLECTION SCRIPT | replay INDEX SCRIPT | serve INDEX PORT CONNS | trial N | upgrade INDEX NEW | import csv SOURCE INDEX | import jsonl SOURCE INDEX | merge INDEX1 INDEX2 NEW";
 
 const NO_MEMORY: &[u8] = b"memory";
 
@@ -34,13 +36,15 @@ pub(crate) enum RunStop<'a> {
     Script(ScriptFault),
     /// The index file breaks a rule.
     Damaged {
-        /// The first rule that it breaks, from 1 to 18.
+        /// The first rule that it breaks, from 1 to 19.
         rule: u8,
         /// The place at which it is broken, in bytes from the file's first.
         at: u64,
     },
     /// The index file isn't what it was at opening.
     Changed,
+    /// Two index files make no third one.
+    Merge(MergeFault),
 }
 
 impl<'a> RunStop<'a> {
@@ -56,6 +60,7 @@ impl<'a> RunStop<'a> {
             RunStop::Memory => 7,
             RunStop::Script(_) => 8,
             RunStop::Changed => 9,
+            RunStop::Merge(fault) => status_of_merge(fault),
         }
     }
 
@@ -75,6 +80,7 @@ impl<'a> RunStop<'a> {
             RunStop::Memory => of_run(NO_MEMORY),
             RunStop::Script(fault) => of_reason(b"script: ", fault.reason()),
             RunStop::Changed => of_run(b"index changed"),
+            RunStop::Merge(fault) => said_of_merge(fault),
         }
     }
 }
@@ -143,11 +149,44 @@ fn said_of_collection(fault: SourceFault) -> Said<'static>
     }
 }
 
+fn status_of_merge(fault: MergeFault) -> u8
+    ensures { result ≡ status (merge_ending (refusal_of fault)) }
+{
+    match fault {
+        MergeFault::Memory => 7,
+        _ => 10,
+    }
+}
+
+fn said_of_merge(fault: MergeFault) -> Said<'static>
+    ensures { said_text result ≡ line_of (merge_ending (refusal_of fault)) }
+{
+    match fault {
+        MergeFault::Targets { first, second } => Said::Targets { first, second },
+        MergeFault::WeightsDiffer { .. } => of_merge(b"weights differ"),
+        MergeFault::TooManyDocs => of_merge(b"too many documents"),
+        MergeFault::TitlesTooLarge => of_merge(b"titles too large"),
+        MergeFault::TooManyRows => of_merge(b"too many rows"),
+        MergeFault::TooManyWords => of_merge(b"too many distinct words"),
+        MergeFault::Memory => of_run(NO_MEMORY),
+    }
+}
+
 fn of_run(words: &'static [u8]) -> Said<'static>
     ensures { said_text result ≡ words.now ++ 10 ∷ [] }
 {
     Said::Words {
         of: b"",
+        line: None,
+        words,
+    }
+}
+
+fn of_merge(words: &'static [u8]) -> Said<'static>
+    ensures { said_text result ≡ codes "merge: " ++ (words.now ++ 10 ∷ []) }
+{
+    Said::Words {
+        of: b"merge: ",
         line: None,
         words,
     }

@@ -11,13 +11,17 @@ mod command;
 mod ending;
 mod files;
 mod lines;
+mod merge;
 mod opening;
 mod replay;
 mod said;
+mod saving;
 mod script;
 mod serve;
 mod sources;
 mod trial;
+mod upgrade;
+mod whole;
 mod words;
 
 pub use command::run;

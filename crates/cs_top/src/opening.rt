@@ -31,9 +31,28 @@ pub(crate) fn open<'a, F: Files>(
     ensures kind { IfErr result IsOfIndex }
     ensures reads { ReadsFiles (F.held files.old) (F.held files.new) (F.faults files.old) (F.faults files.new) result }
 {
+    let index = open_held(alloc, files, index)?;
+    let engine = engine_of(alloc, index)?;
+    Ok(engine)
+}
+
+/// The index of an index file.
+pub(crate) fn open_held<'a, F: Files>(
+    alloc: Global,
+    files: &mut F,
+    index: HeldFile<'_>,
+) -> Result<Index, RunStop<'a>>
+    requires size { IsSized (F.held files.old) index }
+
+    ensures ok { OfFile (F.held files.old) index.entry (λ b. IfOk result (StandsFor b)) }
+    ensures damaged { OfFile (F.held files.old) index.entry (λ b. IfErr result (IsDamage b)) }
+    ensures fits { IfOk result (HasAllBlocks (file_bytes (F.held files.new) index.entry.name.now)) }
+    ensures kind { IfErr result IsOfIndex }
+    ensures reads { ReadsFiles (F.held files.old) (F.held files.new) (F.faults files.old) (F.faults files.new) result }
+{
     let mut store = FileStore::new(files, index.name, index.size);
     match open_index(alloc, &mut store) {
-        Ok(index) => Ok(engine_of(alloc, index)?),
+        Ok(index) => Ok(index),
         Err(OpenFault::Damaged { rule, at }) => Err(RunStop::Damaged { rule, at }),
         Err(OpenFault::Read) => Err(RunStop::Failed),
         Err(OpenFault::Memory) => Err(RunStop::Memory),

@@ -29,6 +29,13 @@ pub(crate) enum Said<'a> {
         /// The place at which it is broken.
         at: u64,
     },
+    /// Index files aren't merged, since they were made for other targets.
+    Targets {
+        /// That of the first.
+        first: u32,
+        /// That of the second.
+        second: u32,
+    },
 }
 
 /// Puts the line. It takes no memory.
@@ -40,6 +47,7 @@ pub(crate) fn put_said<E: Sink>(err: &mut E, said: Said<'_>) -> Result<(), Faile
     match said {
         Said::Words { of, line, words } => put_words(err, of, line, words),
         Said::Damage { rule, at } => put_damage(err, rule, at),
+        Said::Targets { first, second } => put_targets(err, first, second),
     }
 }
 
@@ -68,6 +76,21 @@ fn put_damage<E: Sink>(err: &mut E, rule: u8, at: u64) -> Result<(), Failed>
     let rule = rule_digits.format(rule).as_bytes();
     let at = place_digits.format(at).as_bytes();
     put_all(err, &[b"index: rule ", rule, b" at ", at, b"\n"])
+}
+
+fn put_targets<E: Sink>(err: &mut E, first: u32, second: u32) -> Result<(), Failed>
+    ensures ok { OnOk result (Grew (E.written err.old) (said_text (TheSaid.Targets first second)) (E.written err.new)) }
+    ensures err { OnErr result (GrewByPrefix (E.written err.old) (said_text (TheSaid.Targets first second)) (E.written err.new)) }
+    ensures counted { Counted (E.faults err.old) (E.faults err.new) result }
+{
+    let mut first_digits = Buffer::new();
+    let mut second_digits = Buffer::new();
+    let first = first_digits.format(first).as_bytes();
+    let second = second_digits.format(second).as_bytes();
+    put_all(
+        err,
+        &[b"merge: targets ", first, b" and ", second, b" differ\n"],
+    )
 }
 
 /// Puts some pieces, one after another.

@@ -63,6 +63,22 @@ pub enum Command<'a> {
         /// The number's digits.
         number: &'a str,
     },
+    /// `upgrade INDEX NEW`.
+    Upgrade {
+        /// The index file's name.
+        index: &'a str,
+        /// The name of the file that is made.
+        new: &'a str,
+    },
+    /// `merge INDEX1 INDEX2 NEW`.
+    Merge {
+        /// The name of the index file whose documents come first.
+        first: &'a str,
+        /// The name of the other one.
+        second: &'a str,
+        /// The name of the file that is made.
+        new: &'a str,
+    },
 }
 
 /// The command; None where the words aren't in the table.
@@ -101,6 +117,10 @@ fn two_words<'a>(command: &str, first: &'a str, second: &'a str) -> Option<Comma
             index: first,
             script: second,
         }),
+        "upgrade" => Some(Command::Upgrade {
+            index: first,
+            new: second,
+        }),
         _ => None,
     }
 }
@@ -116,6 +136,11 @@ fn three_words<'a>(
 {
     match command {
         "import" => import(first, second, third),
+        "merge" => Some(Command::Merge {
+            first,
+            second,
+            new: third,
+        }),
         _ => serve(command, first, second, third),
     }
 }

@@ -10,22 +10,12 @@ use Rattle.cs_top.specs.Views.{IsDevice, stop_ending}
 use Rattle.cs_top.specs.declared.ending.RunStop.{RunStop}
 use Rattle.cs_top.specs.declared.ending.RunStop.TheVariants as stops
 use Rattle.cs_top.specs.declared.words.Form.{Form}
+use Rattle.cs_top.proofs.BuildLemmas.{cut_by}
 use Rattle.cs_top.proofs.ScriptLemmas.{held_by}
 use Rattle.cs_top.proofs.StopLemmas.{caused_by, source_by}
 use Rattle.cs_top.proofs.build.build.Given as given
 use Rattle.cs_top.proofs.build.build.Goals as goal
 use Rattle.cs_top.proofs.build.build.Goals.{In_ok-image}
-
--- a stop of saving
-begun : (form : Form) (s : RunStop) (h : Held) (c i : List ℕ) (x : Image) (now : Option Held) → IsDevice s → HasImage form h c x → IsBegun (Some h) i (file x) now → BuildTold form (stop_ending s) h c i now
-begun form stops.Failed h c i x now kind has is = inr (x, has, is)
-begun form stops.Memory h c i x now kind has is = inr (x, has, is)
-begun form stops.Usage h c i x now kind has is = absurd kind
-begun form (stops.Collection f) h c i x now kind has is = absurd kind
-begun form (stops.Absent n) h c i x now kind has is = absurd kind
-begun form (stops.Script f) h c i x now kind has is = absurd kind
-begun form (stops.Damaged rule at) h c i x now kind has is = absurd kind
-begun form stops.Changed h c i x now kind has is = absurd kind
 
 -- over files that hold h: after the source was read they hold the same
 same : (g : given.Over) (c : In_ok-image g) (h : Held) → g.F.Files.held c.args.files.now ≡ Some h → g.F.Files.held c.read_image.new.files ≡ Some h
@@ -68,6 +58,5 @@ returns-in_err-save-clause-told g c h held =
     let made = (goal.at.returns-in_err-save-clause-told g c).In_ok-image in
     let x = c.in_ok-image.image in
     let all : BuildTold c.args.form (stop_ending c.in_err-save.field-0.0) h c.args.source.now c.args.index.now (g.F.Files.held c.save.new.files) =
-    begun c.args.form c.in_err-save.field-0.0 h c.args.source.now c.args.index.now x _ c.in_err-save.ensures.kind (has g made h held)
-    (subst (λ old. IsBegun old c.args.index.now (file x) (g.F.Files.held c.save.new.files)) (same g made h held) c.in_err-save.ensures.err) in
+    inr (x, has g made h held, cut_by c.in_err-save.field-0.0 h c.args.index.now x _ c.in_err-save.ensures.kind (subst (λ old. IsBegun old c.args.index.now (file x) (g.F.Files.held c.save.new.files)) (same g made h held) c.in_err-save.ensures.err)) in
     search rules

@@ -1,14 +1,13 @@
-use Rattle.std.proofs.Common.{◌≡◌, ◌∙◌, ap, subst, sym}
+use Rattle.std.proofs.Common.{◌≡◌, ◌∙◌, ap}
 use Rattle.std.specs.Prelude.{Some}
 use Rattle.cs_base.specs.outside.Outside.{file_bytes}
-use Rattle.cs_file.specs.Indexes.{StandsFor}
 use Rattle.cs_top.specs.Met.{held_bytes}
-use Rattle.cs_top.proofs.opening.open.Goals as goal
+use Rattle.cs_top.proofs.opening.open_held.Goals as goal
 
-pub returns-in_ok-engine_of-in-Ok-clause-ok : goal.returns-in_ok-engine_of-in-Ok-clause-ok
-returns-in_ok-engine_of-in-Ok-clause-ok g c h held =
+pub returns-in-Ok-clause-ok : goal.returns-in-Ok-clause-ok
+returns-in-Ok-clause-ok g c h held =
     let told : file_bytes (g.F.Files.held c.new-store.result.files.now) c.new-store.result.name.now ≡ Some (held_bytes h c.args.index.name.now) =
     ap (λ n. file_bytes (g.F.Files.held c.new-store.result.files.now) n) c.new-store.ensures.name
     ∙ ap (λ f. file_bytes (g.F.Files.held f) c.args.index.name.now) c.new-store.ensures.files
     ∙ ap (λ x. file_bytes x c.args.index.name.now) held in
-    subst (StandsFor (held_bytes h c.args.index.name.now)) (sym c.in_ok-engine_of-in-Ok.ensures.index) (c.in-Ok.ensures.ok (held_bytes h c.args.index.name.now) told)
+    c.in-Ok.ensures.ok (held_bytes h c.args.index.name.now) told

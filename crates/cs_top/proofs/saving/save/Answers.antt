@@ -4,7 +4,7 @@ use Rattle.cs_base.proofs.FileLemmas.{held_after, saved}
 use Rattle.cs_model_index.specs.Layout.{file}
 use Rattle.cs_top.specs.Build.{IsBegun}
 use Rattle.cs_top.proofs.BuildLemmas.{begun_by, grown_all, made_or_not}
-use Rattle.cs_top.proofs.build.saving.save.Goals as goal
+use Rattle.cs_top.proofs.saving.save.Goals as goal
 
 pub returns-in_err-create-clause-err : goal.returns-in_err-create-clause-err
 returns-in_err-create-clause-err g c =

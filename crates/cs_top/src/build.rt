@@ -4,14 +4,12 @@ ghost use Rattle.cs_top.specs.Build.{BuildEnds, BuildTold};
 ghost use Rattle.cs_top.specs.CommandLine.{CausedBy};
 ghost use Rattle.cs_top.specs.Views.{ended};
 
-mod saving;
-
 use crate::ending::RunStop;
 use crate::files::{HeldFile, size_of};
+use crate::saving::save;
 use crate::sources::read_image;
 use crate::words::Form;
 use cs_base::Files;
-use saving::save;
 use std::alloc::Global;
 
 /// Writes the index file of a source's collection. The source is read whole before the file is made, so both may have one name.

@@ -1,0 +1,41 @@
+//! Index files that are read whole.
+ghost use Rattle.std.specs.Prelude.{◌≡◌, false, IfOk, IfErr, OnOk};
+ghost use Rattle.std.specs.Option.{ForSome};
+ghost use Rattle.cs_file.specs.ReadImages.{IsFileImage};
+ghost use Rattle.cs_file.specs.Writable.{CanBeWritten};
+ghost use Rattle.cs_model_index.specs.FileRules.{IsIndexFile};
+ghost use Rattle.cs_model_index.specs.Sections.{image_of};
+ghost use Rattle.cs_top.specs.Views.{IsOfWhole, IsSized, IsWholeCause, OfFile, ReadsFiles};
+
+use crate::ending::RunStop;
+use crate::files::HeldFile;
+use crate::opening::open_held;
+use cs_base::{FileStore, Files};
+use cs_file::{FetchFault, Image};
+use std::alloc::Global;
+
+/// The image of an index file. What was opened isn't held any more.
+pub(crate) fn read_whole<'a, F: Files>(
+    alloc: Global,
+    files: &mut F,
+    file: HeldFile<'_>,
+) -> Result<Image, RunStop<'a>>
+    requires size { IsSized (F.held files.old) file }
+
+    ensures ok { OfFile (F.held files.old) file.entry (λ b. IfOk result (λ im. im ≡ image_of b)) }
+    ensures accepted { OfFile (F.held files.old) file.entry (λ b. OnOk result (IsIndexFile b)) }
+    ensures cause { OfFile (F.held files.old) file.entry (λ b. IfErr result (IsWholeCause b)) }
+    ensures whole { IfOk result IsFileImage }
+    ensures writable { IfOk result CanBeWritten }
+    ensures kind { IfErr result IsOfWhole }
+    ensures reads { ReadsFiles (F.held files.old) (F.held files.new) (F.faults files.old) (F.faults files.new) result }
+{
+    let index = open_held(alloc, files, file)?;
+    let mut store = FileStore::new(files, file.name, file.size);
+    match index.image(alloc, &mut store) {
+        Ok(image) => Ok(image),
+        Err(FetchFault::Changed { .. }) => Err(RunStop::Changed),
+        Err(FetchFault::Read) => Err(RunStop::Failed),
+        Err(FetchFault::Memory) => Err(RunStop::Memory),
+    }
+}
