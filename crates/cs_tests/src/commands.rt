@@ -16,6 +16,10 @@ const IMPORT_CSV: &[&str] = &["import", "csv", "C", "I"];
 
 const IMPORT_JSONL: &[&str] = &["import", "jsonl", "C", "I"];
 
+const UPGRADE: &[&str] = &["upgrade", "I", "N"];
+
+const MERGE: &[&str] = &["merge", "C", "Q", "N"];
+
 // What a plain search over sets of rows, in another language, counts of the first trial.
 const SUMMARY: &str =
     "documents 100\nrows 1600\nblocks 2\nreplies 260\nhits 4023\nsame 47\nnarrow 189\nextend 20\nfresh 4\n";
@@ -267,6 +271,9 @@ const RUNS: &[Run] = &[
     (ASK, None, None, 5, "", "absent: C\n"),
     (ASK, Some(b"\xFF"), None, 5, "", "absent: Q\n"),
     (SERVE, None, None, 5, "", "absent: I\n"),
+    (UPGRADE, None, None, 5, "", "absent: I\n"),
+    (MERGE, Some(b""), None, 5, "", "absent: Q\n"),
+    (MERGE, Some(b""), Some(b""), 4, "", "index: rule 1 at 0\n"),
     (&["ask", "C"], None, None, 2, "", USAGE),
     (&["trial", "1001"], None, None, 2, "", USAGE),
     (&["import", "tsv", "C", "I"], None, None, 2, "", USAGE),

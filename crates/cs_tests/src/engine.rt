@@ -69,6 +69,7 @@ fn each_request_goes_on_from_those_before(rt: HostRuntime) -> Result<(), Fail> {
             reply.total_hits,
         );
         same(&rt, &found, &(*plan, *kept, *words, *hits), *text);
+        same(&rt, &reply.hits.len(), &(*hits as usize), *text);
         are_hits(&rt, reply.hits.as_slice(), *score, text);
     }
     Ok(())

@@ -10,6 +10,8 @@ mod failing;
 #[cfg(test)]
 mod hubs;
 #[cfg(test)]
+mod made_of_indexes;
+#[cfg(test)]
 mod runs;
 #[cfg(test)]
 mod serving;

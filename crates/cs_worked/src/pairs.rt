@@ -18,13 +18,15 @@ pub struct WorkedScript {
     pub lines: &'static [Worked],
 }
 
-/// A collection, and its index file.
+/// A collection, and its index files.
 #[derive(Clone, Copy, Debug)]
 pub struct WorkedFile {
     /// The bytes of the collection's file, which are text.
     pub collection: &'static str,
-    /// All bytes of the index file.
+    /// All bytes of its index file of version 2.
     pub file: &'static [u8],
+    /// All bytes of that of version 1.
+    pub file1: &'static [u8],
 }
 
 /// The head of a request, and what is sent for it.

@@ -18,6 +18,8 @@ const HEAD: BlockHead = BlockHead {
     rows: 3,
     len: 24,
     facet: false,
+    least: 0,
+    greatest: 0,
 };
 
 const BLOCK: [u8; 24] = [
@@ -150,6 +152,8 @@ const FACET: BlockHead = BlockHead {
     rows: 1,
     len: 8,
     facet: true,
+    least: 0,
+    greatest: 0,
 };
 
 // The same of a plain word.
@@ -159,6 +163,8 @@ const PLAIN: BlockHead = BlockHead {
     rows: 1,
     len: 8,
     facet: false,
+    least: 0,
+    greatest: 0,
 };
 
 // With a byte more.
@@ -168,6 +174,8 @@ const LONGER: BlockHead = BlockHead {
     rows: 1,
     len: 9,
     facet: true,
+    least: 0,
+    greatest: 0,
 };
 
 // A facet counts for more than usual.
@@ -220,6 +228,8 @@ const MIXED: BlockHead = BlockHead {
     rows: 600,
     len: 5400,
     facet: true,
+    least: 0,
+    greatest: 0,
 };
 
 const GAPS: [u32; 3] = [1, 200, 20_000];

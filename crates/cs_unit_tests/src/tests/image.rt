@@ -1,6 +1,7 @@
 //! Images of small collections, against the bytes of their files.
 ghost use Rattle.std.specs.Prelude.{IfOk};
 ghost use Rattle.cs_file.specs.Writable.{CanBeWritten};
+ghost use Rattle.cs_merge.specs.Merging.{IsOfFile};
 
 use crate::tests::rows::same;
 use cs_base::{MemSink, Memory};
@@ -22,14 +23,17 @@ const FILES: &[WorkedFile] = &[
 #[test]
 fn the_file_of_a_collection_has_these_bytes(rt: HostRuntime) -> Result<(), Fail> {
     for row in FILES {
-        let file = file_of(rt.alloc(), row.collection.as_bytes())?;
+        let image = image_of(rt.alloc(), row.collection.as_bytes())?;
+        let file = file_of(rt.alloc(), &image)?;
         same(&rt, &file.as_slice(), &row.file, row.collection);
     }
     Ok(())
 }
 
-fn image_of(alloc: Global, collection: &[u8]) -> Result<Image, Memory>
-    ensures { IfOk result CanBeWritten }
+/// The image of a collection that is accepted.
+pub(crate) fn image_of(alloc: Global, collection: &[u8]) -> Result<Image, Memory>
+    ensures writable { IfOk result CanBeWritten }
+    ensures file { IfOk result IsOfFile }
 {
     let Ok(Collected { docs, weights }) = read_docs(alloc, collection) else {
         return Err(Memory);
@@ -43,11 +47,12 @@ fn image_of(alloc: Global, collection: &[u8]) -> Result<Image, Memory>
     }
 }
 
-// The file of a collection; none where memory runs out.
-fn file_of(alloc: Global, collection: &[u8]) -> Result<Vec<u8>, Memory> {
-    let image = image_of(alloc, collection)?;
+/// The bytes of an image's file.
+pub(crate) fn file_of(alloc: Global, image: &Image) -> Result<Vec<u8>, Memory>
+    requires { CanBeWritten image.now }
+{
     let mut sink = MemSink::new(alloc);
-    match write_index(alloc, &image, &mut sink) {
+    match write_index(alloc, image, &mut sink) {
         Ok(()) => Ok(sink.into_bytes()),
         Err(_) => Err(Memory),
     }

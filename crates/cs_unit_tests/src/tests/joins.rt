@@ -1,6 +1,5 @@
 //! A join on worked rows.
 use crate::tests::rows::{Columns, have, posts};
-use cs_base::Memory;
 use cs_cols::Cols;
 use cs_join::shared;
 use cs_meet::docs_of;
@@ -26,8 +25,8 @@ fn rows_share_words_with_listed_documents(rt: HostRuntime) -> Result<(), Fail> {
     Ok(())
 }
 
-fn joined(alloc: Global) -> Result<Cols, Memory> {
+fn joined(alloc: Global) -> Result<Cols, Fail> {
     let rows = posts(alloc, &ROWS)?;
     let hits = docs_of(alloc, &posts(alloc, &INNER)?)?;
-    shared(alloc, &rows, hits.as_slice())
+    Ok(shared(alloc, &rows, hits.as_slice())?)
 }

@@ -76,8 +76,9 @@ fn two_lists_of_posts_give_these(rt: HostRuntime) -> Result<(), Fail> {
     Ok(())
 }
 
-fn merged(alloc: Global, way: Way, a: &Columns, b: &Columns) -> Result<Cols, Memory> {
-    brought(alloc, way, &posts(alloc, a)?, &posts(alloc, b)?)
+fn merged(alloc: Global, way: Way, a: &Columns, b: &Columns) -> Result<Cols, Fail> {
+    let merged = brought(alloc, way, &posts(alloc, a)?, &posts(alloc, b)?)?;
+    Ok(merged)
 }
 
 fn brought(alloc: Global, way: Way, a: &Cols, b: &Cols) -> Result<Cols, Memory>

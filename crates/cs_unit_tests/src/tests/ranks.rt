@@ -48,6 +48,7 @@ fn hits_go_by_score_and_then_by_document(rt: HostRuntime) -> Result<(), Fail> {
 fn a_list_keeps_the_best_of_its_room(rt: HostRuntime) -> Result<(), Fail> {
     let mut best = Best::new(rt.alloc(), 2)?;
     let mut none = Best::new(rt.alloc(), 0)?;
+    same(&rt, &SCORED.len(), &BEST.len(), "as many");
     for (s, want) in SCORED.iter().zip(BEST) {
         best.offer(*s);
         none.offer(*s);

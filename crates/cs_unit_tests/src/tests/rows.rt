@@ -1,12 +1,11 @@
 //! What the tests of several files share: rows of tables and what is told of them, long texts, and posts.
 //!
 //! An assertion costs most of what a test's proof takes, so `same` has the only one that prints two values.
-ghost use Rattle.std.specs.Prelude.{IfOk};
+ghost use Rattle.std.specs.Prelude.{◌≡◌, true, IfOk};
 ghost use Rattle.cs_base.specs.content.Orders.{AreSorted};
 
 use cs_base::{Memory, Post, Text};
 use cs_cols::Cols;
-use cs_meet::unite;
 use std::alloc::Global;
 use std::fmt::Debug;
 use std::process::Abort;
@@ -105,34 +104,40 @@ pub(crate) fn shown<T: Debug>(alloc: Global, value: &T) -> Result<Text, Memory> 
     Ok(Text::from_string(format!(in alloc; "{value:?}")?))
 }
 
-/// Posts of score 1 that have these columns, in order.
-pub(crate) fn posts(alloc: Global, columns: &Columns) -> Result<Cols, Memory>
+/// Posts of score 1 that have these columns, which are as long as each other, in order.
+pub(crate) fn posts(alloc: Global, columns: &Columns) -> Result<Cols, Fail>
     ensures { IfOk result (λ c. AreSorted c.posts) }
 {
     let (docs, places, words) = *columns;
+    if places.len() != docs.len() || words.len() != docs.len() {
+        return Err(Fail::new("columns of different lengths"));
+    }
     let mut cols = Cols::new(alloc);
-    for i in 0..docs.len().min(places.len()).min(words.len()) {
-        cols = unite(
-            alloc,
-            &cols,
-            &one_post(alloc, docs[i], places[i], words[i])?,
-        )?;
+    for i in 0..docs.len() {
+        cols.reserve(1)?;
+        cols.push_reserved(Post {
+            doc: docs[i],
+            word: words[i],
+            pos: places[i],
+            score: 1,
+        });
+    }
+    if !are_sorted(&cols) {
+        return Err(Fail::new("posts out of order"));
     }
     Ok(cols)
 }
 
-fn one_post(alloc: Global, doc: u32, pos: u32, word: u32) -> Result<Cols, Memory>
-    ensures { IfOk result (λ c. AreSorted c.posts) }
+// Whether each post comes before the next one.
+fn are_sorted(posts: &Cols) -> bool
+    ensures { result ≡ true → AreSorted posts.now.posts }
 {
-    let mut cols = Cols::new(alloc);
-    cols.reserve(1)?;
-    cols.push_reserved(Post {
-        doc,
-        word,
-        pos,
-        score: 1,
-    });
-    Ok(cols)
+    for i in 1..posts.len() {
+        if !posts.get(i - 1).is_before(posts.get(i)) {
+            return false;
+        }
+    }
+    true
 }
 
 /// That posts have these columns.
