@@ -11,7 +11,7 @@ import pathlib
 import re
 import sys
 
-ADDRESSES = re.compile(r"/builds/[0-9TZ]+/addresses\.txt")
+LISTS = re.compile(r"/builds/[0-9TZ]+/(addresses|texts)\.txt")
 SECONDS = 10    # within which the server must answer
 
 
@@ -22,7 +22,7 @@ class Front(http.server.SimpleHTTPRequestHandler):
         if self.path.partition("?")[0] == "/search":
             self.pass_on()
             return
-        self.directory = str(self.folder if ADDRESSES.fullmatch(self.path) else self.folder / "page")
+        self.directory = str(self.folder if LISTS.fullmatch(self.path) else self.folder / "page")
         super().do_GET()
 
     def pass_on(self):

@@ -16,7 +16,7 @@ for program in bin/sh bin/systemctl usr/local/lib/complete/complete usr/local/li
     chmod +x "$root/$program"
 done
 
-for unit in complete.service complete-build.service complete-build.timer; do
+for unit in complete.service complete@8088.service complete-build.service complete-build.timer; do
     # It says nothing of a unit in which it finds nothing; of some faults it ends with 0.
     said=$(systemd-analyze verify --man=no --root="$root" "$unit" 2>&1) || said="${said:-failed}"
     if [ -n "$said" ]; then
