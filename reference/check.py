@@ -11,7 +11,7 @@ Run it at the top of the repository. It reads sources and pages alone, and takes
     wrong bodies     those that no page names, names of ones that aren't there, and texts that don't stand once in their file
     sizes            files over 800 lines, and functions over 40, counted between their braces
     words            numbers of papers, and words about how work was organised, which say nothing to a reader
-    worked rows      the tables of `docs/QUERY.md` and the reply of `README.md`, computed by the reference (`worked.py`)
+    worked rows      the tables of `docs/QUERY.md`, the reply of `README.md` and the files of `docs/INDEX_FILE.md`, computed by the reference (`worked.py`)
 """
 import pathlib
 import re

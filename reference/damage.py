@@ -1,9 +1,9 @@
-"""Index files with something changed, in each of their parts."""
+"""Index files with something changed, in each of their parts; and files with each of their bytes changed in turn."""
 import contextlib
 import struct
 
 from basics import Ended
-from index_files import FIRST, HEADER_BYTES, ROW_BYTES, SECOND, File
+from index_files import ENTRY_BYTES, FIRST, HEADER_BYTES, ROW_BYTES, SECOND, TARGET, File, image_of, index_bytes
 
 
 def with_number(data, place, number):
@@ -30,15 +30,22 @@ def damaged_version(dice, data, file):
     return magic + data[8:file.directory_at] + directory + data[file.blocks_at:]
 
 
-def damaged_header(dice, data, _file):
+def damaged_header(dice, data, file):
     shape = dice.choices(["target", "weights", "number"], [3, 2, 5])[0]
     if shape == "target":
-        return with_number(data, 24, dice.randint(1, 12))
+        data = with_number(data, 24, dice.randint(1, 12))
+        return damaged_bound(dice, data, file) if file.version == SECOND and file.blocks and dice.random() < 0.5 else data
     if shape == "weights":
         return data[:40] + dice.choice([*HOSTILE_FIELDS, bytes([0, *(dice.choice([1, 2, 4, 9]) for _ in range(3))])]) + data[44:]
     place = 8 + 4 * dice.randrange(9)
     numbers = [number_at(data, place) + dice.choice([-1, 1]), 0, *(2**power + more for power in (20, 22, 24) for more in (0, 1))]
     return with_number(data, place, dice.choice(numbers))
+
+
+def damaged_bound(dice, data, file):
+    """The least or the greatest document of an entry is another one."""
+    place = file.directory_at + file.entry_bytes * dice.randrange(file.blocks) + dice.choice([16, 20])
+    return with_number(data, place, dice.choice([number_at(data, place) + dice.choice([-1, 1]), 0, file.documents - 1, file.documents]))
 
 
 HOSTILE_WORDS = ["", "a", "A", "é", "a_b", "a b", ":", "::a", ":k:", ":k:_", ":k:a:b", ":K:a", ":1:a", "k:a", ":k:a-b", ":" + "z" * 17 + ":a", "a" * 120, "a" * 121,
@@ -128,6 +135,29 @@ def damaged(dice, data):
         except Ended:
             return data
         hows = [damaged_header, damaged_version, damaged_offsets, damaged_bytes, damaged_bytes] + [damaged_words, damaged_directory, damaged_block, damaged_block] * (file.blocks > 0)
+        hows += [damaged_bound] * (file.blocks > 0 and file.version == SECOND)
         with contextlib.suppress(IndexError, ValueError):    # the parts no longer tell where they lie
             data = dice.choice(hows)(dice, data, file)
     return data
+
+
+# ---- Each byte in turn ----
+
+WRITTEN_OVER = [0x00, 0x01, 0x7F, 0x80, 0xFF]
+# One document; three, in four blocks; and two among many without words, so that a gap code has two bytes, in blocks of few rows.
+WHOLE = [
+    (b"Ab\tk=C\tb a", TARGET),
+    (b"Type less find more\tauthor=Bast;author=Weber;year=2006\tautocompletion search with a succinct index\n"
+     b"The CompleteSearch engine\tauthor=Bast;year=2007\ttype ahead search and faceted search\n"
+     b"Typed lambda calculi\tauthor=Church;year=1940\ttypes\n", 20),
+    ("#weights title=9 facet=3 text=128\né è\tk=a;k=b\ta b\n".encode() + b"\t\n" * 129 + "b\tk=aω;y=1\tb\n".encode(), 2),
+]
+
+
+def written_over():
+    """Three index files in each version, with each byte set to each of some values."""
+    for data, target in WHOLE:
+        for version in ENTRY_BYTES:
+            whole = index_bytes(image_of(data)._replace(target=target), version)
+            for place, old in enumerate(whole):
+                yield from (whole[:place] + bytes([byte]) + whole[place + 1:] for byte in WRITTEN_OVER if byte != old)

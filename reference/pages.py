@@ -17,7 +17,7 @@ FOR_USERS = ("README.md", "COLLECTION.md", "COMMANDS.md", "HTTP.md", "INDEX_FILE
 SOURCES = (".rt", ".antt", ".py", ".sh", ".js", ".html", ".conf", ".h", ".cpp", ".txt", ".service")
 # Programs, crates with their calls, media types, patterns, pieces of names, and files that a user has: no names of the sources.
 OUTSIDE = {"perf", "curl", "rand_pcg", "advance", "application/x-www-form-urlencoded", ".rt", ".antt", "..Examples.antt", "req",
-           "addresses.txt", "collection.tsv", "builds/NAME/addresses.txt"}
+           "addresses.txt", "texts.txt", "collection.tsv", "builds/NAME/addresses.txt"}
 
 NAME = r"[^\W\d][\w']*"
 QUOTED = re.compile(r"`([^`\n]+)`")

@@ -9,7 +9,8 @@ behind are compared; of `serve`, what comes back on each connection. A case that
 differs, and printed with its number; the exit status is then 1.
 
 A kind whose command the program hasn't yet, by `features.py`, isn't run unless COMPLETE_HAS names it. `cases.py`, `damage.py`,
-`source_cases.py` and `streams.py` make what is random. The kind `characters` goes through all that this Python's table has.
+`source_cases.py` and `streams.py` make what is random. The kind `characters` goes through all that this Python's table has, and
+`bytes` through all bytes of some index files.
 """
 import concurrent.futures
 import contextlib
@@ -28,7 +29,7 @@ import unicodedata
 import complete
 from basics import Ended
 from cases import TARGETS_TRIED, World, accepted, changing_script, collection, encoded, script, weights_line
-from damage import damaged
+from damage import damaged, written_over
 from documents import COLLECTION_BYTES, DOCUMENTS, DOCUMENT_WORDS, LINE_BYTES, collection_of, corpus_of
 from features import ALL, HAS
 from index_files import ENTRY_BYTES, TARGET, image_of, index_bytes
@@ -147,6 +148,14 @@ def live_case(dice):
     data = accepted(dice, world, dice.choice([0, 3, 8]))
     files = {"C": data, "Q": changing_script(dice, world, len(collection_of(data).documents))}
     return {"words": ["live", "I", "Q"], "files": files, "made": {"I": made_of(dice, "C")}}
+
+
+def byte_cases():
+    """Index files with one byte changed: what is said of each, what it answers, and what is read of it, as far as a file shows that."""
+    for data in written_over():
+        yield {"words": ["replay", "I", "Q"], "files": {"I": data, "Q": b"q=&h=100&c=100&f=k,author,year\nq=b\n"}}
+        if "upgrade" in HAS:
+            yield {"words": ["upgrade", "I", "N"], "files": {"I": data}}
 
 
 def trial_cases():
@@ -356,10 +365,10 @@ def show(kind, number, case, got, want):
 
 MADE = {"ask": ask_case, "words": words_case, "build": build_case, "replay": replay_case, "damage": damage_case, "serve": serve_case, "together": together_case, "upgrade": upgrade_case,
         "csv": csv_case, "jsonl": jsonl_case, "excerpts": excerpts_case, "merge": merge_case, "live": live_case}
-LISTED = {"characters": character_cases, "limits": limit_cases, "trial": trial_cases}
-COUNTS = {"ask": 20_000, "words": 5_000, "characters": 10_000, "limits": 100, "build": 5_000, "damage": 10_000, "replay": 5_000, "serve": 3_000, "together": 500, "trial": 20,
+LISTED = {"characters": character_cases, "limits": limit_cases, "bytes": byte_cases, "trial": trial_cases}
+COUNTS = {"ask": 20_000, "words": 5_000, "characters": 10_000, "limits": 100, "build": 5_000, "damage": 10_000, "bytes": 100_000, "replay": 5_000, "serve": 3_000, "together": 500, "trial": 20,
           "upgrade": 3_000, "csv": 20_000, "jsonl": 20_000, "excerpts": 10_000, "merge": 5_000, "live": 10_000}
-FEW = {"trial": 2, "characters": 50, "limits": 0, "serve": 50, "together": 20}
+FEW = {"trial": 2, "characters": 50, "limits": 0, "bytes": 500, "serve": 50, "together": 20}
 NEEDS = {"csv": "import", "jsonl": "import"}    # other kinds need the command of their name, where it is one of those to come
 
 

@@ -1,4 +1,5 @@
-"""The worked rows of pages, computed by the reference: what `docs/QUERY.md` says of its three documents, and the reply in `README.md`.
+"""The worked rows of pages, computed by the reference: what `docs/QUERY.md` says of its three documents, the reply in `README.md`, and the
+files of `docs/INDEX_FILE.md` with what is damaged in them.
 
 A row whose text is in words, as "121 letters", isn't computed.
 """
@@ -8,12 +9,13 @@ import re
 import unicodedata
 
 from answers import Request, reply_of, text_of
-from basics import Refused
+from basics import Ended, Refused
 from documents import collection_of, corpus_of, norm
+from index_files import FIRST, SECOND, image_of, index_bytes, open_index
 from pages import QUOTED, table_rows
 from queries import canonical, judge_query, keys_of, query_of
 
-QUERY, README = pathlib.Path("docs/QUERY.md"), pathlib.Path("README.md")
+QUERY, README, INDEX_FILE = pathlib.Path("docs/QUERY.md"), pathlib.Path("README.md"), pathlib.Path("docs/INDEX_FILE.md")
 DOCUMENTS = pathlib.Path("crates/complete/data/C")
 EMPTY = "the empty text"
 FENCE = re.compile(r"^```(\w*)\n(.*?)^```", re.M | re.S)
@@ -100,6 +102,7 @@ def rows():
     if computed < 40:
         yield str(QUERY), f"only {computed} worked rows were found: the tables have other heads than reference/worked.py knows"
     yield from readme()
+    yield from index_files()
 
 
 def readme():
@@ -110,3 +113,46 @@ def readme():
     corpus = corpus_of(collection_of(blocks.get("text", "").replace(" → ", "\t").encode()))
     if shown != text_of(corpus, b"q=typ"):
         yield str(README), f"the reply to q=typ is {text_of(corpus, b'q=typ')}"
+
+
+# ---- Index files ----
+DUMPED = re.compile(r"^ *(\d+)((?: +[0-9A-F]{2}\b)+)", re.M)      # a line of a hexdump: a place, and the bytes from there on
+
+
+def dumped(dump):
+    """The bytes of a hexdump, each line of which names the place of its first byte."""
+    data = b""
+    for place, line in DUMPED.findall(dump):
+        if int(place) != len(data):
+            return None
+        data += bytes.fromhex(line)
+    return data
+
+
+def damage_of(data):
+    """The first broken rule and its place as a page writes them."""
+    try:
+        open_index(data)
+    except Ended as end:
+        return end.args[1].removeprefix("index: rule ")
+    return "none"
+
+
+def index_files():
+    """The hexdumps of the files, and the tables of the two with a document, of which one byte is set."""
+    text = INDEX_FILE.read_text(encoding="utf-8")
+    worked = {version: index_bytes(image_of(b"Ab\tk=C\tb a"), version) for version in (SECOND, FIRST)}
+    dumps = [dumped(body) for kind, body in FENCE.findall(text) if kind == "hexdump"]
+    if dumps != [index_bytes(image_of(b"")), *worked.values()]:
+        yield str(INDEX_FILE), "a hexdump isn't the file that the reference makes"
+    computed = 0
+    for number, row in table_rows(text):
+        for version, name in ((SECOND, "in version 2"), (FIRST, "in version 1")):
+            if said := row.get(f"{name}: the first broken rule, and where"):
+                place, byte = int(row["place"]), bytes.fromhex(row["set to"].strip("`"))
+                right = damage_of(worked[version][:place] + byte + worked[version][place + 1:])
+                computed += 1
+                if said.partition(":")[0] != right:
+                    yield f"{INDEX_FILE}:{number}", f"it says {said}, and the reference {right}"
+    if computed < 20:
+        yield str(INDEX_FILE), f"only {computed} damaged files were found"
