@@ -21,9 +21,13 @@ class Front(http.server.SimpleHTTPRequestHandler):
     def do_GET(self):
         if self.path.partition("?")[0] == "/search":
             self.pass_on()
-            return
+        else:
+            super().do_GET()
+
+    def send_head(self):
+        """For GET and HEAD of a file: of the page's folder, or a list of a build."""
         self.directory = str(self.folder if LISTS.fullmatch(self.path) else self.folder / "page")
-        super().do_GET()
+        return super().send_head()
 
     def pass_on(self):
         """Answers as the server does, with the name of the build that is served; 502 where it doesn't answer."""

@@ -1,11 +1,13 @@
 #!/usr/bin/env python3
-"""Serves the page over an index of `examples/papers.tsv`, and says its address.
+"""Serves a search box over a collection, and says its address.
 
-    serve.py [PROGRAM]
+    serve.py [PROGRAM [COLLECT [PAGE]]]
 
-PROGRAM is `complete` at the top of the repository, or another one with its commands, as `reference/complete.py`. In front of
-it is nginx, or `front.py` where there is none; and before the reference, which serves one connection after the other, so that
-one that nginx keeps would hold up the next. Both servers listen on free ports of 127.0.0.1, and end with the script.
+PROGRAM is `complete` at the top of the repository, or another one with its commands, as `reference/complete.py`. COLLECT leaves
+the collection and its lists in a folder, as `rebuild.sh` says: here `collect.py`, for `examples/papers.tsv`. PAGE is the box,
+here `index.html`; for documents of your own copy it, and change its first constants. In front of PROGRAM is nginx, or `front.py`
+where there is none; and before the reference, which serves one connection after the other, so that one that nginx keeps would
+hold up the next. Both servers listen on free ports of 127.0.0.1, and end with the script.
 """
 import os
 import pathlib
@@ -48,13 +50,13 @@ def replaced(text, old, new):
     return text.replace(old, new)
 
 
-def lay_out(folder, program, front, back):
+def lay_out(folder, program, collect, page, front, back):
     """Puts a build, the page, and nginx's configuration with these ports, into the folder."""
     folder.chmod(0o755)    # nginx's worker may be another user
-    subprocess.run([EXAMPLES / "rebuild.sh", folder, EXAMPLES / "collect.py", program], check=True)
+    subprocess.run([EXAMPLES / "rebuild.sh", folder, collect, program], check=True)
     os.rename(folder / "next", folder / "current")
     (folder / "page").mkdir()
-    shutil.copy(PAGE / "index.html", folder / "page")
+    shutil.copy(page, folder / "page/index.html")
     text = (PAGE / "nginx.conf").read_text()
     text = replaced(text, "listen 127.0.0.1:8080", f"listen 127.0.0.1:{front}")
     text = replaced(text, "server 127.0.0.1:8088", f"server 127.0.0.1:{back}")
@@ -70,10 +72,13 @@ def front_of(folder, program, front, back):
 
 def main():
     signal.signal(signal.SIGTERM, lambda number, frame: sys.exit())
-    program = sys.argv[1] if len(sys.argv) > 1 else str(EXAMPLES.parent / "complete")
+    words = sys.argv[1:]
+    program = words[0] if words else str(EXAMPLES.parent / "complete")
+    collect = pathlib.Path(words[1] if len(words) > 1 else EXAMPLES / "collect.py").resolve()
+    page = words[2] if len(words) > 2 else PAGE / "index.html"
     with tempfile.TemporaryDirectory(prefix="complete-page-") as name:
         folder, front, back = pathlib.Path(name), free_port(), free_port()
-        lay_out(folder, program, front, back)
+        lay_out(folder, program, collect, page, front, back)
         servers = []
         try:
             servers.append(subprocess.Popen([program, "serve", folder / "current/index", str(back), str(CONNECTIONS)]))

@@ -11,17 +11,25 @@ trap 'rm -rf "$root"' EXIT
 mkdir -p "$root/usr/lib/systemd" "$root/etc/systemd/system" "$root/bin" "$root/usr/local/lib/complete"
 cp -r /usr/lib/systemd/system "$root/usr/lib/systemd/"
 cp "$here"/*.service "$here"/*.timer "$root/etc/systemd/system/"
-for program in bin/sh bin/systemctl usr/local/lib/complete/complete usr/local/lib/complete/rebuild.sh; do
+for program in bin/sh bin/systemctl bin/sleep bin/mv usr/local/lib/complete/complete usr/local/lib/complete/rebuild.sh; do
     printf '#!/bin/sh\n' > "$root/$program"
     chmod +x "$root/$program"
 done
 
-for unit in complete.service complete@8088.service complete-build.service complete-build.timer; do
+verify() {
     # It says nothing of a unit in which it finds nothing; of some faults it ends with 0.
-    said=$(systemd-analyze verify --man=no --root="$root" "$unit" 2>&1) || said="${said:-failed}"
+    said=$(systemd-analyze verify --man=no --root="$root" "$1" 2>&1) || said="${said:-failed}"
     if [ -n "$said" ]; then
         echo "$said" >&2
         exit 1
     fi
-    echo "$unit: verified"
+    echo "$1: verified"
+}
+
+for unit in complete.service complete@8088.service complete-build.service complete-build.timer; do
+    verify "$unit"
 done
+several=$root/etc/systemd/system/complete-build.service.d
+mkdir "$several"
+cp "$here/several.conf" "$several"
+verify complete-build.service
