@@ -4,13 +4,13 @@
 --   linked_reads, joined_reads, met_part-is, met_query-is      the blocks of a level by those of what it holds
 --   entry_begins, entry_by_hits, entry_ends     the entry of the parts so far
 --   hits_go_on, hits_end        their hits
---   part_begins, part_goes_on, part_ends        the rows of the alternatives so far
---   chain_goes_on, chain_ends     the rows that the links so far lead to
+--   chain_goes_on, chain_ends, chain_stops     the rows that the links so far lead to
 --   linked_within        what is linked is in range
---   joined_rows          the rows of a join, by those of its name
+--   joined_rows, none_shared      the rows of a join, by those of its name; none where its inner query has no hit
 --   docs_begin, docs_go_on, docs_end      the documents of the parts so far
-use Rattle.std.proofs.Common.{◌≡◌, ℕ, ◌+◌, ◌<◌, ◌≤◌, Bool, false, not, List, [], ◌∷◌, ◌++◌, length, map, take, drop, get_or, refl, sym, ap, subst, ◌∙◌, arith}
-use Rattle.std.specs.Prelude.{sum, fold}
+use Rattle.std.proofs.Common.{◌≡◌, ℕ, ◌+◌, ◌<◌, ◌≤◌, ◌==◌, ◌&&◌, ◌||◌, Bool, true, false, cond, not, List, [], ◌∷◌, ◌++◌, length, map, take, drop, get_or, refl, sym, ap, ap₂}
+use Rattle.std.proofs.Common.{subst, ◌∙◌, arith}
+use Rattle.std.specs.Prelude.{filter, sum, fold}
 use Rattle.cs_base.specs.outside.Causes.{ReadsWithin}
 use Rattle.cs_base.specs.declared.content.query.Link.{Link}
 use Rattle.cs_base.specs.declared.content.query.Link.TheVariants.{Phrase, Near}
@@ -21,7 +21,6 @@ use Rattle.std.proofs.lemmas.List.{append-nil, append_assoc, take_all, drop_all,
 use Rattle.std.specs.List.{list_any}
 use Rattle.std.proofs.lemmas.List.Elements.{All-weaker, All-from_recursion}
 use Rattle.std.proofs.lemmas.List.Sums.{fold-append}
-use Rattle.cs_base.specs.content.Orders.{AreSorted}
 use Rattle.cs_base.specs.declared.content.doc.Base.{Base}
 use Rattle.cs_base.specs.declared.content.doc.Base.TheVariants as base
 use Rattle.cs_base.specs.declared.content.doc.Post.{Post}
@@ -34,9 +33,9 @@ use Rattle.cs_base.specs.declared.content.query.Atom.{Atom, roll-Atom}
 use Rattle.cs_base.specs.declared.content.query.Atom.TheVariants.{Join}
 use Rattle.cs_base.specs.declared.content.query.Atom.TheOpen.{Atom-F}
 use Rattle.cs_base.specs.declared.content.query.Atom.TheFolds.{fold-roll-Atom, fold_out-Linked, fold_out-Part, fold_out-Query}
-use Rattle.cs_meet.specs.Filters.{IsUnion, stands_behind, is_near}
+use Rattle.cs_meet.specs.Filters.{stands_behind, is_near}
 use Rattle.cs_model.specs.Answers.{PartRows, LinkedRows, atom_rows, chain_rows, chained, hits, linked_rows, part_rows, parts_of, query_parts, rows_of_atom}
-use Rattle.cs_model.specs.Answers.{rows_of_chain, rows_of_linked, rows_of_part, scored, union_of}
+use Rattle.cs_model.specs.Answers.{linked_to, rows_of_chain, rows_of_linked, rows_of_part, scored}
 use Rattle.cs_model.specs.Collection.{named}
 use Rattle.cs_model.specs.Corpus.{Corpus}
 use Rattle.cs_model_kept.specs.Due.{Division, atom_met, chain_met, linked_met, part_met, query_met, met_of_atom, met_of_chain, met_of_linked, met_of_part, met_prefix}
@@ -54,7 +53,7 @@ use Rattle.cs_engine.proofs.FoldsLemmas.{part_rows-is}
 use Rattle.cs_engine.proofs.HitsLemmas.{own_docs}
 use Rattle.cs_engine.proofs.FoundLemmas.{is_excluded}
 use Rattle.cs_engine.proofs.PartSteps.{AreHitsBehind, docs_more, hits_told, listed_told}
-use Rattle.cs_engine.proofs.UnionLemmas.{no_chains, one_more_chain, one_more_link, picked_known}
+use Rattle.cs_engine.proofs.UnionLemmas.{one_more_link, picked_known}
 
 -- ---- levels
 module _ (k : Corpus) where
@@ -170,29 +169,22 @@ module _ (s : Stock) (ps : List Part) where
   unfolding entry_of
   entry_ends q i e are l so_far = so_far ∙ ap (λ xs. entry k (map (rows_of_part k) xs)) (take_all i ps l ∙ are) ∙ ap (entry k) (sym (parts_read k q))
 
--- ---- alternatives
-module _ (s : Stock) (chains : List Chain) where
-  abbrev ks : Corpus
-  ks = corpus_in s
-
-  abbrev pub RowsSoFar : ℕ → List Post → Type 0
-  RowsSoFar i found = HasRows s (union_of (map (rows_of_chain ks) (take i chains))) found
-
-  pub part_begins : (found : List Post) → found ≡ [] → RowsSoFar 0 found
-  part_begins found is = let h = no_chains s found is in record { is = h.0; picked = h.1 }
-
-  pub part_goes_on : IsStocked s → (i : ℕ) (x : Chain) → i < length chains → x ≡ get_or chains i x → (found next now : List Post) → RowsSoFar i found
-      → HasRows s (rows_of_chain ks x) next → IsUnion found next now → AreSorted now → RowsSoFar (i + 1) now
-  part_goes_on stocked i x l at found next now so_far more union up =
-      let h = one_more_chain s chains i x found next now stocked l at so_far.is so_far.picked more.is more.picked union up in
-      record { is = h.0; picked = h.1 }
-
-  pub part_ends : (p : Part) → chains ≡ (out-Part p).chains → (i : ℕ) (found : List Post) → length chains ≤ i → RowsSoFar i found
-      → HasRows s (rows_of_part ks p).rows found
-  part_ends p are i found l so_far = subst (λ rows. HasRows s rows found)
-      (ap (λ cs. union_of (map (rows_of_chain ks) cs)) (take_all i chains l ∙ are) ∙ sym (ap (λ (r : PartRows). r.rows) (part_rows-is ks p))) so_far
-
 -- ---- links
+no_rows : (rows : List Post) → length rows ≡ 0 → rows ≡ []
+no_rows [] none = refl
+no_rows (r ∷ rows) none = absurd (omega (arith, none))
+
+nothing_linked : (link : Link) (rows : List Row) → linked_to link [] rows ≡ []
+nothing_linked Phrase [] = refl
+nothing_linked Phrase (r ∷ rows) = nothing_linked Phrase rows
+nothing_linked Near [] = refl
+nothing_linked Near (r ∷ rows) = nothing_linked Near rows
+
+-- behind no row there is none
+nothing_chained : (ls : List LinkedRows) → chained [] ls ≡ []
+nothing_chained [] = refl
+nothing_chained (l ∷ ls) = ap (λ x. chained x ls) (nothing_linked l.link l.rows) ∙ nothing_chained ls
+
 module _ (s : Stock) (c : Chain) (links : List Linked) where
   abbrev kl : Corpus
   kl = corpus_in s
@@ -213,6 +205,15 @@ module _ (s : Stock) (c : Chain) (links : List Linked) where
     picked = so_far.picked;
   }
 
+  pub chain_stops : (i : ℕ) (found : List Post) → length found ≡ 0 → LinkedSoFar i found → HasRows s (rows_of_chain kl c) found
+  chain_stops i found none so_far =
+      let empty = no_rows found none in
+      let rest = map (rows_of_linked kl) (drop i links) in
+      record {
+        is = ap (rows_at s.words) empty ∙ sym (nothing_chained rest) ∙ ap (λ ps. chained (rows_at s.words ps) rest) (sym empty) ∙ sym so_far.rows;
+        picked = so_far.picked;
+      }
+
 -- ---- what always holds
 pub linked_within : (i : IndexView) (link : Link) (a b c : List Post) → AreWithin i b → c ≡ linked_posts link a b → AreWithin i c
 linked_within i Phrase a b c w is = subst (AreWithin i) (sym is) (kept_within i (λ r. list_any (stands_behind r) a) b w)
@@ -230,6 +231,23 @@ joined_rows s stocked a name inner is posts now docs has are now_is = record {
       ∙ sym (is_join (corpus_in s) name inner) ∙ ap (rows_of_atom (corpus_in s)) (sym is);
   picked = picked_again s (shares_word docs posts) posts now has.picked now_is;
 }
+
+none_both : (b : Bool) → (b && false) ≡ false
+none_both true = refl
+none_both false = refl
+
+none_alike : (r : Post) (rows : List Post) → shares_word [] rows r ≡ false
+none_alike r [] = refl
+none_alike r (x ∷ rows) = ap₂ (λ p q. p || q) (none_both (x.word == r.word)) (none_alike r rows)
+
+none_kept : (all rows : List Post) → filter (shares_word [] all) rows ≡ []
+none_kept all [] = refl
+none_kept all (r ∷ rows) = ap (λ b. cond b (r ∷ filter (shares_word [] all) rows) (filter (shares_word [] all) rows)) (none_alike r all) ∙ none_kept all rows
+
+-- with no hit no word is shared
+pub none_shared : (posts : List Post) (docs : List ℕ) → length docs ≡ 0 → shared posts docs ≡ []
+none_shared posts [] none = none_kept posts posts
+none_shared posts (d ∷ docs) none = absurd (omega (arith, none))
 
 pub entry_unrolled : (k : Corpus) (q : Query) → entry_of k q ≡ entry k (parts_of k q)
 unfolding entry_of

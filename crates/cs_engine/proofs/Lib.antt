@@ -1,4 +1,5 @@
 pub mod AlikeLemmas
+pub mod AlternativesLemmas
 pub mod AnsweringLemmas
 pub mod AtomsLemmas
 pub mod BehindLemmas

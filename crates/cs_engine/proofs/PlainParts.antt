@@ -40,10 +40,10 @@ use Rattle.cs_engine.specs.IndexReading.{AreWithin, HasRows, IsSpanOf, stock_of}
 use Rattle.cs_engine.specs.Steps.{EntryFits, IsBaseOf, is_in_base, posts_after}
 use Rattle.cs_engine.specs.Stocked.{corpus_in, is_between}
 use Rattle.cs_engine.proofs.CountingLemmas.{kept_listed, stock_within}
-use Rattle.cs_engine.proofs.EvaluationLemmas.{joined_reads, met_part-is, part_begins, part_ends, part_goes_on}
+use Rattle.cs_engine.proofs.AlternativesLemmas.{lists_begin, lists_end, lists_go_on, ordered_itself}
+use Rattle.cs_engine.proofs.EvaluationLemmas.{joined_reads, met_part-is}
 use Rattle.cs_engine.proofs.RowsInRange.{kept_within}
 use Rattle.cs_engine.proofs.StockLemmas.{stocked}
-use Rattle.cs_engine.proofs.UnionLemmas.{with_nothing}
 use Rattle.cs_engine.proofs.WalkLemmas.{within_more}
 use Rattle.cs_engine.proofs.AskedWords.{prefix_met, span_found, word_met}
 
@@ -117,9 +117,9 @@ part_words i is p c chains are one (Some w) h =
           let s = stock_of b in
           let has = h.posts b stands in
           let posts = filter (is_between w.0 w.1) s.posts in
-          part_ends s (c ∷ []) p (sym own) 1 posts (omega arith)
-          (part_goes_on s (c ∷ []) (stocked b i stands is) 0 c (omega arith) refl [] posts posts (part_begins s (c ∷ []) [] refl) has
-          (with_nothing [] posts refl) has.picked.sorted);
+          lists_end s (c ∷ []) (stocked b i stands is) p (sym own) 1 posts posts (omega arith)
+          (lists_go_on s (c ∷ []) 0 c (omega arith) refl [] posts posts (lists_begin s (c ∷ []) [] refl) has refl)
+          (ordered_itself posts has.picked.sorted);
     }
 
 -- ---- the entry

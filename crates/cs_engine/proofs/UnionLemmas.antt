@@ -129,39 +129,6 @@ pub picked_words : (s : Stock) (posts : List Post) → IsStocked s → All (Cont
 picked_words s posts kept among =
     all_then (IsKnown s) (λ p. p.word < length s.words) (λ p h. h.word) posts (picked_known s posts kept among)
 
-pub united : (s : Stock) (a b c : List Post) → IsStocked s → IsPicked s a → IsPicked s b → IsUnion a b c → AreSorted c
-    → (rows_at s.words c ≡ members_in by_row (rows_at s.words a ++ rows_at s.words b)) × IsPicked s c
-united s a b c kept in_a in_b union up =
-    let posts = s.posts in
-    let among : All (Contains posts) c = All-permutation (Contains posts) (a ++ missing a b) c union
-    (All-append (Contains posts) a (missing a b) in_a.among (All-filter _ (Contains posts) b in_b.among)) in
-    let all_a = recursion_from_All (Contains posts) a in_a.among in
-    let all_b = recursion_from_All (Contains posts) b in_b.among in (
-      members_are by_row by_row_total by_row_exact (rows_at s.words c) (rows_at s.words a ++ rows_at s.words b)
-          (rows_rise s.words kept.words c (picked_words s c kept among) up)
-          (λ q.
-          any_through (row_of s.words) (eq_by_cmp by_row q) c
-          ∙ sym (list_any-IsPermutation (λ p. eq_by_cmp by_row q (row_of s.words p)) (a ++ missing a b) c union)
-          ∙ any_united posts kept.sorted (λ p. eq_by_cmp by_row q (row_of s.words p)) a b all_a all_b
-          ∙ sym (any_through (row_of s.words) (eq_by_cmp by_row q) (a ++ b))
-          ∙ ap (list_any (eq_by_cmp by_row q)) (map-append (row_of s.words) a b)),
-      record { sorted = up; among = among },
-    )
-
--- one more list of rows
-pub united_more : (found next : List Row) (chains : List (List Row)) → found ≡ union_of chains
-    → members_in by_row (found ++ next) ≡ union_of (chains ++ next ∷ [])
-united_more found next chains is =
-    members-alike by_row by_row_total by_row_exact (found ++ next) (flat_map (λ rows. rows) (chains ++ next ∷ [])) (λ q.
-    list_any-append (eq_by_cmp by_row q) found next
-    ∙ ap (λ b. b || list_any (eq_by_cmp by_row q) next)
-    (ap (list_any (eq_by_cmp by_row q)) is ∙ is_member-listed by_row by_row_total (flat_map (λ rows. rows) chains) q)
-    ∙ sym (list_any-append (eq_by_cmp by_row q) (flat_map (λ rows. rows) chains) next)
-    ∙ ap (list_any (eq_by_cmp by_row q)) (sym (last_piece chains)))
-  where
-    last_piece : (chains : List (List Row)) → flat_map (λ rows. rows) (chains ++ next ∷ []) ≡ flat_map (λ rows. rows) chains ++ next
-    last_piece chains = flat_map-append (λ rows. rows) chains (next ∷ []) ∙ ap (λ l. flat_map (λ rows. rows) chains ++ l) (append-nil next)
-
 -- ---- links
 
 pub linked_phrase : (ws : List (List ℕ)) (a b : List Post) → rows_at ws (follow a b) ≡ linked_to Phrase (rows_at ws a) (rows_at ws b)
@@ -197,46 +164,7 @@ pub linked : (s : Stock) (link : Link) (a b c : List Post) → IsPicked s b → 
 linked s Phrase a b c picked is = (ap (rows_at s.words) is ∙ linked_phrase s.words a b, picked_again s _ b c picked is)
 linked s Near a b c picked is = (ap (rows_at s.words) is ∙ linked_near s.words a b, picked_again s _ b c picked is)
 
--- ---- the steps of the loops
-
-none_missing : (b : List Post) → missing [] b ≡ b
-none_missing [] = refl
-none_missing (x ∷ b) = ap (λ l. x ∷ l) (none_missing b)
-
-pub with_nothing : (a b : List Post) → length a ≡ 0 → IsUnion a b b
-with_nothing [] b h = subst (λ xs. IsPermutation xs b) (sym (none_missing b)) (IsPermutation-refl b)
-with_nothing (x ∷ a) b h = absurd (omega (arith, h))
-
-nothing_sorted : AreSorted []
-unfolding IsStrictlySortedBy
-nothing_sorted = tt
-
-none_rise : IsStrictlySortedBy by_row []
-unfolding IsStrictlySortedBy
-none_rise = tt
-
-nothing_listed : [] ≡ members_in by_row []
-nothing_listed = listed_itself by_row by_row_total by_row_exact [] none_rise
-
-pub no_chains : (s : Stock) (found : List Post) → found ≡ [] → (rows_at s.words found ≡ union_of []) × IsPicked s found
-no_chains s found is = (ap (rows_at s.words) is ∙ nothing_listed, subst (IsPicked s) (sym is) (record { sorted = nothing_sorted; among = All-nil _ }))
-
-pub one_more_chain : (s : Stock) (chains : List Chain) (i : ℕ) (x : Chain) (found next now : List Post) → IsStocked s → i < length chains
-    → x ≡ get_or chains i x
-    → rows_at s.words found ≡ union_of (map (rows_of_chain (corpus_in s)) (take i chains)) → IsPicked s found
-    → rows_at s.words next ≡ rows_of_chain (corpus_in s) x → IsPicked s next
-    → IsUnion found next now → AreSorted now
-    → (rows_at s.words now ≡ union_of (map (rows_of_chain (corpus_in s)) (take (i + 1) chains))) × IsPicked s now
-one_more_chain s chains i x found next now kept l at is picked next_is next_picked union up =
-    let all = united s found next now kept picked next_picked union up in
-    let f : Chain → List Row = rows_of_chain (corpus_in s) in
-    let more : map f (take (i + 1) chains) ≡ map f (take i chains) ++ f x ∷ [] =
-    ap (map f) (take_more chains i x l) ∙ map-append f (take i chains) (get_or chains i x ∷ []) ∙ ap (λ y. map f (take i chains) ++ f y ∷ []) (sym at) in (
-      all.0 ∙ ap (λ rows. members_in by_row (rows_at s.words found ++ rows)) next_is ∙ united_more (rows_at s.words found) (f x) (map f (take i chains)) is
-          ∙ ap union_of (sym more),
-      all.1,
-    )
-
+-- ---- the step of the loop over links
 pub one_more_link : (s : Stock) (links : List Linked) (i : ℕ) (x : Linked) (whole : List Row) (found next now : List Post) → i < length links
     → x ≡ get_or links i x
     → whole ≡ chained (rows_at s.words found) (map (rows_of_linked (corpus_in s)) (drop i links))

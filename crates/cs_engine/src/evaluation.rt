@@ -6,7 +6,7 @@ ghost use Rattle.cs_model_kept.specs.Due.{met_of_atom, met_of_chain, met_of_part
 ghost use Rattle.cs_engine.specs.{Asking.{division}, IndexReading.{AreWithin, HasRows, IsOpened, OnlyReads, WhereStood, stock_of}, Stocked.{corpus_in}};
 
 use crate::entries::{agreeing, docs_of_base};
-use crate::parts::{joined, linked_rows};
+use crate::parts::{add_list, linked_rows, united};
 use crate::reading::rows_between;
 use crate::words::{span_of_facet, span_of_word};
 use cs_base::{Atom, Base, Chain, Part, Query, Store};
@@ -31,15 +31,17 @@ pub(crate) fn rows_of_part<S: Store>(
     ensures store { OnlyReads S.bytes S.lent S.faults index.now store.old store.new result }
     ensures reads { ReadsWithin (met_of_part (division index.now) part.now) (S.reads store.old) (S.reads store.new) }
 {
-    let mut found = Cols::new(alloc);
+    let mut lists = Vec::new(alloc);
     for chain in part.chains.as_slice() {
-        let next = rows_of_chain(alloc, index, store, chain)?;
-        found = joined(alloc, found, next)?;
+        let rows = rows_of_chain(alloc, index, store, chain)?;
+        add_list(&mut lists, rows)?;
     }
-    Ok(found)
+    let all = united(alloc, lists)?;
+    Ok(all)
 }
 
-// Link by link from the left, the rows of each atom that are linked to a row kept so far.
+// Link by link from the left, the rows of each atom that are linked to a row kept so far. Behind an atom of which none is kept no other is
+// read.
 #[cycle(evaluation)]
 fn rows_of_chain<S: Store>(
     alloc: Global,
@@ -57,6 +59,9 @@ fn rows_of_chain<S: Store>(
 {
     let mut found = rows_of_atom(alloc, index, store, &chain.first)?;
     for linked in chain.rest.as_slice() {
+        if found.len() == 0 {
+            return Ok(found);
+        }
         let next = rows_of_atom(alloc, index, store, &linked.atom)?;
         found = linked_rows(alloc, linked.link, &found, &next)?;
     }
@@ -91,6 +96,9 @@ fn rows_of_atom<S: Store>(
         Atom::Join { name, inner } => {
             let docs = docs_of_hits(alloc, index, store, inner)?;
             let words = span_of_facet(alloc, index, name)?;
+            if docs.len() == 0 {
+                return Ok(Cols::new(alloc));
+            }
             let rows = rows_between(alloc, index, store, words)?;
             let kept = shared(alloc, &rows, docs.as_slice())?;
             Ok(kept)

@@ -1,27 +1,63 @@
 //! Alternatives and links, by the rows of what they hold.
-ghost use Rattle.std.specs.Prelude.{◌≡◌, IfOk};
-ghost use Rattle.cs_meet.specs.Filters.{IsUnion};
+ghost use Rattle.std.specs.Prelude.{◌≡◌, ◌++◌, ◌∷◌, [], flat_map, IfOk, OnOk};
+ghost use Rattle.std.specs.List.{All};
 ghost use Rattle.cs_base.specs.content.Orders.{AreSorted};
-ghost use Rattle.cs_engine.specs.Stocked.{linked_posts};
+ghost use Rattle.cs_engine.specs.{Packing.{IsOrdered}, Stocked.{linked_posts}};
 
 use cs_base::{Link, Memory};
 use cs_cols::Cols;
 use cs_meet::{follow, near, unite};
 use std::alloc::Global;
 
-/// The rows of some first chains, with those of one more.
-pub(crate) fn joined(alloc: Global, found: Cols, next: Cols) -> Result<Cols, Memory>
-    requires found_sorted { AreSorted found.posts }
-    requires next_sorted { AreSorted next.posts }
-
-    ensures ok { IfOk result (λ c. IsUnion found.posts next.posts c.posts) }
-    ensures sorted { IfOk result (λ c. AreSorted c.posts) }
+/// Adds a list behind others.
+pub(crate) fn add_list(lists: &mut Vec<Cols>, rows: Cols) -> Result<(), Memory>
+    ensures { OnOk result (lists.new.items ≡ lists.old.items ++ rows ∷ []) }
 {
-    if found.len() == 0 {
-        return Ok(next);
+    lists.push(rows)?;
+    Ok(())
+}
+
+/// The rows of some lists, each place once. A list that is alone is given back as it is.
+pub(crate) fn united(alloc: Global, mut lists: Vec<Cols>) -> Result<Cols, Memory>
+    requires { All (λ c. AreSorted c.posts) lists.items }
+
+    ensures { IfOk result (λ c. IsOrdered (flat_map (λ l. l.posts) lists.items) c.posts) }
+{
+    if lists.len() > 1 {
+        let all = united_halves(alloc, &lists)?;
+        return Ok(all);
     }
-    let both = unite(alloc, &found, &next)?;
-    Ok(both)
+    match lists.pop() {
+        Some(only) => Ok(only),
+        None => Ok(Cols::new(alloc)),
+    }
+}
+
+// The rows of some lists, each place once: those of each half are united first, so that each row is moved once for each doubling of the
+// number of lists.
+fn united_halves(alloc: Global, lists: &[Cols]) -> Result<Cols, Memory>
+    requires { All (λ c. AreSorted c.posts) lists.now }
+
+    ensures { IfOk result (λ c. IsOrdered (flat_map (λ l. l.posts) lists.now) c.posts) }
+{
+    match lists {
+        [] => Ok(Cols::new(alloc)),
+        [only] => {
+            let copied = only.copy(alloc)?;
+            Ok(copied)
+        }
+        [first, second] => {
+            let both = unite(alloc, first, second)?;
+            Ok(both)
+        }
+        _ => {
+            let (front, back) = lists.split_at(lists.len() / 2);
+            let left = united_halves(alloc, front)?;
+            let right = united_halves(alloc, back)?;
+            let both = unite(alloc, &left, &right)?;
+            Ok(both)
+        }
+    }
 }
 
 /// Those of `next` that are linked to one of `found`.

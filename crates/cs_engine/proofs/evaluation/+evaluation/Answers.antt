@@ -1,6 +1,8 @@
-use Rattle.std.proofs.Common.{◌≡◌, ◌<◌, [], sym, ap, subst, ◌∙◌, arith}
-use Rattle.std.specs.Prelude.{All}
-use Rattle.cs_base.specs.content.Orders.{AreDocs}
+use Rattle.std.proofs.Common.{◌≡◌, ◌<◌, [], length, refl, sym, ap, subst, ◌∙◌, arith}
+use Rattle.std.specs.Prelude.{All, filter}
+use Rattle.std.proofs.lemmas.List.Elements.{All-nil, All-push, All-weaker}
+use Rattle.cs_base.specs.content.Orders.{AreDocs, AreSorted}
+use Rattle.cs_cols.specs.declared.cols.Cols.{Cols}
 use Rattle.cs_base.specs.declared.content.doc.Post.{Post}
 use Rattle.cs_base.specs.declared.content.query.Part.{out-Part}
 use Rattle.cs_base.specs.declared.content.query.Linked.{out-Linked}
@@ -11,12 +13,13 @@ use Rattle.cs_model.specs.Collection.{named}
 use Rattle.cs_engine.specs.Asking.{division}
 use Rattle.cs_engine.specs.IndexReading.{AreWithin, stock_of}
 use Rattle.cs_engine.specs.Steps.{docs_after}
-use Rattle.cs_engine.specs.Stocked.{docs_in}
+use Rattle.cs_engine.specs.Stocked.{docs_in, is_between}
 use Rattle.cs_engine.proofs.AskedWords.{span_found}
 use Rattle.cs_engine.proofs.PlainParts.{exact_words, join_reads, prefix_words, words_told}
-use Rattle.cs_engine.proofs.EvaluationLemmas.{docs_begin, docs_go_on, docs_end, linked_reads, met_part-is, met_query-is, part_begins, part_goes_on}
-use Rattle.cs_engine.proofs.EvaluationLemmas.{part_ends, chain_goes_on, chain_ends, linked_within, joined_rows}
-use Rattle.cs_engine.proofs.RowsInRange.{kept_within, none_within, united_within}
+use Rattle.cs_engine.proofs.AlternativesLemmas.{flat, flat_more, lists_begin, lists_end, lists_go_on, lists_within}
+use Rattle.cs_engine.proofs.EvaluationLemmas.{docs_begin, docs_go_on, docs_end, linked_reads, met_part-is, met_query-is}
+use Rattle.cs_engine.proofs.EvaluationLemmas.{chain_goes_on, chain_ends, chain_stops, linked_within, joined_rows, none_shared}
+use Rattle.cs_engine.proofs.RowsInRange.{kept_within, none_within}
 use Rattle.cs_engine.proofs.PartSteps.{base_sorted, known_docs}
 use Rattle.cs_engine.proofs.StockLemmas.{docs_are, stocked}
 use Rattle.cs_engine.proofs.WalkLemmas.{list_begins, list_goes_on, list_stops, within_more}
@@ -122,7 +125,27 @@ rows_of_atom-returns-in_ok-kept-in-Join-clause-within g t c =
     subst (AreWithin i) (sym c.in_ok-kept-in-Join.ensures.ok)
     (kept_within i (shares_word _ c.in_ok-rows-in-Join.rows.posts) c.in_ok-rows-in-Join.rows.posts c.in_ok-rows-in-Join.ensures.within)
 
+pub rows_of_atom-returns-then-len-eq0-clause-told : goal.rows_of_atom-returns-then-len-eq0-clause-told
+rows_of_atom-returns-then-len-eq0-clause-told g t c b is stands =
+    let s = stock_of b in
+    let i = c.args.index.now in
+    let words = c.in_ok-words-in-Join.words in
+    let docs = c.in_ok-docs-in-Join.docs.items in
+    let asked = filter (is_between words.0 words.1) s.posts in
+    let rows = span_found b i stands c.requires.opened.index (begins (named c.in-Join.name [])) words.0 words.1 c.in_ok-words-in-Join.ensures.holds asked refl in
+    let none : length docs ≡ 0 = omega (arith, c.if-len-eq0.true, c.len.ensures) in
+    joined_rows s (stocked b i stands c.requires.opened.index) c.args.atom.now c.in-Join.name c.in-Join.inner c.in-Join.is asked c.new.result.posts docs rows
+    (c.in_ok-docs-in-Join.ensures.told b is stands) (c.new.ensures ∙ sym (none_shared asked docs none))
+
+pub rows_of_atom-returns-then-len-eq0-clause-within : goal.rows_of_atom-returns-then-len-eq0-clause-within
+rows_of_atom-returns-then-len-eq0-clause-within g t c = subst (AreWithin c.args.index.now) (sym c.new.ensures) (none_within c.args.index.now)
+
 -- ---- links
+pub rows_of_chain-returns-then-len-eq0-clause-told : goal.rows_of_chain-returns-then-len-eq0-clause-told
+rows_of_chain-returns-then-len-eq0-clause-told g t c b is stands =
+    chain_stops (stock_of b) c.args.chain.now c.as_slice-linked-items.result.now c.loop-linked.linked-index c.loop-linked.found.posts
+    (sym c.len.ensures.value ∙ c.if-len-eq0.true) (c.loop-linked.invariant.told b is stands)
+
 pub rows_of_chain-loop-linked-preserved : goal.rows_of_chain-loop-linked-preserved
 rows_of_chain-loop-linked-preserved g t c =
     let inv = c.loop-linked.invariant in
@@ -149,28 +172,37 @@ rows_of_part-loop-chain-init g t c =
     let i = c.args.index.now in
     record {
       walk = list_begins (met_part-is (division i) c.args.part.now) c.as_slice-chain-items.ensures;
-      within = subst (AreWithin i) (sym c.new-found.ensures) (none_within i);
-      told = λ b is stands. part_begins (stock_of b) c.as_slice-chain-items.result.now c.new-found.result.posts c.new-found.ensures;
+      within = subst (All (λ (l : Cols). AreWithin i l.posts)) (sym c.new-lists.ensures.items) (All-nil (λ (l : Cols). AreWithin i l.posts));
+      told = λ b is stands. lists_begin (stock_of b) c.as_slice-chain-items.result.now (flat c.new-lists.result.items) (ap flat c.new-lists.ensures.items);
     }
 
 pub rows_of_part-loop-chain-preserved : goal.rows_of_part-loop-chain-preserved
 rows_of_part-loop-chain-preserved g t c =
     let i = c.args.index.now in
     let inv = c.loop-chain.invariant in
+    let old = c.loop-chain.lists.items in
+    let rows = c.in_ok-rows.rows in
     record {
-      walk = list_goes_on inv.walk c.loop-chain-test.true c.chain-item.is c.in_ok-next.ensures.store c.in_ok-next.ensures.reads;
-      within = united_within i c.loop-chain.found.posts c.in_ok-next.next.posts c.in_ok-found.found.posts inv.within c.in_ok-next.ensures.within
-          c.in_ok-found.ensures.ok c.in_ok-found.ensures.sorted;
-      told = λ b is stands. part_goes_on (stock_of b) c.as_slice-chain-items.result.now
-          (stocked b i stands c.requires.opened.index) c.loop-chain.chain-index c.chain-item.result c.loop-chain-test.true c.chain-item.is
-          c.loop-chain.found.posts c.in_ok-next.next.posts c.in_ok-found.found.posts (inv.told b is stands)
-          (c.in_ok-next.ensures.told b (inv.walk.store.bytes ∙ is) stands) c.in_ok-found.ensures.ok c.in_ok-found.ensures.sorted;
+      walk = list_goes_on inv.walk c.loop-chain-test.true c.chain-item.is c.in_ok-rows.ensures.store c.in_ok-rows.ensures.reads;
+      within = subst (All (λ (l : Cols). AreWithin i l.posts)) (sym c.in_ok-add_list.ensures)
+          (All-push (λ (l : Cols). AreWithin i l.posts) old rows inv.within c.in_ok-rows.ensures.within);
+      told = λ b is stands. lists_go_on (stock_of b) c.as_slice-chain-items.result.now c.loop-chain.chain-index c.chain-item.result
+          c.loop-chain-test.true c.chain-item.is (flat old) rows.posts (flat c.add_list.new.lists.items) (inv.told b is stands)
+          (c.in_ok-rows.ensures.told b (inv.walk.store.bytes ∙ is) stands) (ap flat c.in_ok-add_list.ensures ∙ flat_more old rows);
     }
+
+pub rows_of_part-united-requires : goal.rows_of_part-united-requires
+rows_of_part-united-requires g t c =
+    All-weaker (λ (l : Cols). AreWithin c.args.index.now l.posts) (λ l. AreSorted l.posts) (λ l h. h.sorted) c.loop-chain.lists.items c.loop-chain.invariant.within
 
 pub rows_of_part-returns-clause-told : goal.rows_of_part-returns-clause-told
 rows_of_part-returns-clause-told g t c b is stands =
-    part_ends (stock_of b) c.as_slice-chain-items.result.now c.args.part.now c.as_slice-chain-items.ensures c.loop-chain.chain-index c.loop-chain.found.posts
-    (omega (arith, c.loop-chain-test.false)) (c.loop-chain.invariant.told b is stands)
+    lists_end (stock_of b) c.as_slice-chain-items.result.now (stocked b c.args.index.now stands c.requires.opened.index) c.args.part.now
+    c.as_slice-chain-items.ensures c.loop-chain.chain-index (flat c.loop-chain.lists.items) c.in_ok-all.all.posts (omega (arith, c.loop-chain-test.false))
+    (c.loop-chain.invariant.told b is stands) c.in_ok-all.ensures
+
+pub rows_of_part-returns-clause-within : goal.rows_of_part-returns-clause-within
+rows_of_part-returns-clause-within g t c = lists_within c.args.index.now c.loop-chain.lists.items c.in_ok-all.all.posts c.loop-chain.invariant.within c.in_ok-all.ensures
 
 -- ---- what is read where one of them fails
 pub docs_of_hits-returns-in_err-rows-clause-reads : goal.docs_of_hits-returns-in_err-rows-clause-reads
@@ -189,10 +221,10 @@ rows_of_chain-returns-in_err-found-2-clause-reads g t c =
     list_stops c.loop-linked.invariant.walk c.loop-linked-test.true c.linked-item.is
     (linked_reads (division c.args.index.now) c.linked-item.result c.rows_of_atom-in-loop-linked.ensures.reads)
 
-pub rows_of_part-returns-in_err-next-clause-reads : goal.rows_of_part-returns-in_err-next-clause-reads
-rows_of_part-returns-in_err-next-clause-reads g t c =
+pub rows_of_part-returns-in_err-rows-clause-reads : goal.rows_of_part-returns-in_err-rows-clause-reads
+rows_of_part-returns-in_err-rows-clause-reads g t c =
     list_stops c.loop-chain.invariant.walk c.loop-chain-test.true c.chain-item.is c.rows_of_chain.ensures.reads
 
-pub rows_of_part-returns-in_err-found-clause-reads : goal.rows_of_part-returns-in_err-found-clause-reads
-rows_of_part-returns-in_err-found-clause-reads g t c =
+pub rows_of_part-returns-in_err-add_list-clause-reads : goal.rows_of_part-returns-in_err-add_list-clause-reads
+rows_of_part-returns-in_err-add_list-clause-reads g t c =
     list_stops c.loop-chain.invariant.walk c.loop-chain-test.true c.chain-item.is c.rows_of_chain.ensures.reads

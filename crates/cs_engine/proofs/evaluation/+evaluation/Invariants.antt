@@ -1,8 +1,11 @@
+use Rattle.std.specs.Prelude.{All}
+use Rattle.cs_cols.specs.declared.cols.Cols.{Cols}
 use Rattle.cs_model_kept.specs.Due.{met_of_chain, met_of_linked, met_of_part, met_of_query}
 use Rattle.cs_rank.specs.DocScores.{IsBase}
 use Rattle.cs_engine.specs.Asking.{division}
 use Rattle.cs_engine.specs.IndexReading.{AreWithin, WhereStood, stock_of}
-use Rattle.cs_engine.proofs.EvaluationLemmas.{DocsSoFar, RowsSoFar, LinkedSoFar}
+use Rattle.cs_engine.proofs.AlternativesLemmas.{ListsSoFar, flat}
+use Rattle.cs_engine.proofs.EvaluationLemmas.{DocsSoFar, LinkedSoFar}
 use Rattle.cs_engine.proofs.WalkLemmas.{ListWalk}
 use Rattle.cs_engine.proofs.evaluation.+evaluation.Given as goal
 
@@ -18,8 +21,8 @@ abbrev pub invariant-rows_of_part-loop-chain : goal.invariant-rows_of_part-loop-
 invariant-rows_of_part-loop-chain g l = let v = division l.index in record {
   walk : ListWalk g.S.Store.bytes g.S.Store.lent g.S.Store.faults g.S.Store.reads
       l.index (met_of_chain v) l.chain-items (met_of_part v l.part) l.fn.store l.store l.chain-index;
-  within : AreWithin l.index l.found.posts;
-  told : WhereStood (g.S.Store.bytes l.fn.store) l.index (λ b. RowsSoFar (stock_of b) l.chain-items l.chain-index l.found.posts);
+  within : All (λ (x : Cols). AreWithin l.index x.posts) l.lists.items;
+  told : WhereStood (g.S.Store.bytes l.fn.store) l.index (λ b. ListsSoFar (stock_of b) l.chain-items l.chain-index (flat l.lists.items));
 }
 
 abbrev pub invariant-rows_of_chain-loop-linked : goal.invariant-rows_of_chain-loop-linked

@@ -1,0 +1,201 @@
+-- Rows of several lists brought into one order.
+--
+--   of_members          what holds of each row of a list holds of those that are among them
+--   ordered_itself      rows in order, brought into order
+--   ordered_none        no rows
+--   united_ordered      of two lists in order their union
+--   flat_one, flat_two, flat_more, lists_within     the rows of a list, of two, and of one more; of lists in range
+--   of_none, of_one, of_two, of_halves, of_popped, none_popped     of so many lists
+--   ListsSoFar          the rows of some lists stand for those of the first chains
+--   lists_begin, lists_go_on, lists_end     before the first chain, behind one more, and behind the last
+use Rattle.std.proofs.Common.{◌≡◌, ℕ, suc, ◌+◌, ◌-◌, ◌<◌, ◌≤◌, ◌||◌, Bool, List, [], ◌∷◌, ◌++◌, length, map, take, drop, get_or, refl, sym, ap, ap₂, subst, ◌∙◌, append-nil}
+use Rattle.std.proofs.Common.{arith, length-take}
+use Rattle.std.specs.Prelude.{flat_map}
+use Rattle.std.specs.List.{All, AllByRecursion, Contains, list_any}
+use Rattle.std.specs.List.Sorted.{IsStrictlySortedBy}
+use Rattle.std.specs.Ordering.{eq_by_cmp}
+use Rattle.std.proofs.lemmas.Grind.{flat_map-append}
+use Rattle.std.proofs.lemmas.List.{length-append, map-append, take-append-drop, take_all, take_more}
+use Rattle.std.proofs.lemmas.List.Elements.{All-append, All-contains, All-filter, All-nil, Contains-append_left, Contains-append_right, Contains-get_or}
+use Rattle.std.proofs.lemmas.List.Elements.{recursion_from_All}
+use Rattle.std.proofs.lemmas.List.Folds.{list_any-append}
+use Rattle.std.proofs.lemmas.List.Sorted.{All-permutation, list_any-IsPermutation}
+use Rattle.cs_base.specs.content.Members.{members_in}
+use Rattle.cs_base.specs.content.Orders.{AreSorted, by_row}
+use Rattle.cs_base.specs.declared.content.doc.Post.{Post}
+use Rattle.cs_base.specs.declared.content.doc.Row.{Row}
+use Rattle.cs_base.specs.declared.content.query.Chain.{Chain}
+use Rattle.cs_base.specs.declared.content.query.Part.{Part, out-Part}
+use Rattle.cs_base.proofs.ListsLemmas.{any_through}
+use Rattle.cs_base.proofs.MembersLemmas.{all_then, members_are}
+use Rattle.cs_base.proofs.OrdersLemmas.{by_row_exact, by_row_total}
+use Rattle.cs_cols.specs.declared.cols.Cols.{Cols}
+use Rattle.cs_meet.specs.Filters.{IsUnion, missing}
+use Rattle.cs_model.specs.Answers.{PartRows, rows_of_chain, rows_of_part, union_of}
+use Rattle.cs_model.specs.Corpus.{Corpus}
+use Rattle.cs_model_index.specs.Numbered.{row_of, rows_at}
+use Rattle.cs_file.specs.Indexes.{IndexView}
+use Rattle.cs_engine.specs.IndexReading.{AreWithin, HasRows, IsWithin}
+use Rattle.cs_engine.specs.Packing.{IsOrdered}
+use Rattle.cs_engine.specs.Stocked.{IsPicked, IsStocked, Stock, corpus_in}
+use Rattle.cs_engine.proofs.FoldsLemmas.{part_rows-is}
+use Rattle.cs_engine.proofs.UnionLemmas.{any_united, picked_words}
+use Rattle.cs_engine.proofs.VocabLemmas.{rows_rise}
+
+-- ---- among others
+pub of_members : (P : Post → Type 0) (rows posts : List Post) → All (Contains rows) posts → All P rows → All P posts
+of_members P rows posts among h = λ k d lt. All-contains P rows (get_or posts k d) h (among k d lt)
+
+own_members : (posts : List Post) → All (Contains posts) posts
+own_members posts = λ k d lt. Contains-get_or posts k d lt
+
+in_front : (xs ys : List Post) → All (Contains (xs ++ ys)) xs
+in_front xs ys = λ k d lt. Contains-append_left xs ys (get_or xs k d) (Contains-get_or xs k d lt)
+
+in_back : (xs ys : List Post) → All (Contains (xs ++ ys)) ys
+in_back xs ys = λ k d lt. Contains-append_right xs ys (get_or ys k d) (Contains-get_or ys k d lt)
+
+-- ---- one list and two
+pub ordered_itself : (posts : List Post) → AreSorted posts → IsOrdered posts posts
+ordered_itself posts up = record { sorted = up; among = own_members posts; alike = λ all up_all inside t. refl }
+
+nothing_sorted : AreSorted []
+unfolding IsStrictlySortedBy
+nothing_sorted = tt
+
+pub ordered_none : IsOrdered [] []
+ordered_none = ordered_itself [] nothing_sorted
+
+pub united_ordered : (xs ys a b c : List Post) → IsOrdered xs a → IsOrdered ys b → IsUnion a b c → AreSorted c → IsOrdered (xs ++ ys) c
+united_ordered xs ys a b c first second union up = record {
+  sorted = up;
+  among =
+      All-permutation (Contains (xs ++ ys)) (a ++ missing a b) c union
+      (All-append (Contains (xs ++ ys)) a (missing a b) (of_members (Contains (xs ++ ys)) xs a first.among (in_front xs ys))
+      (All-filter _ (Contains (xs ++ ys)) b (of_members (Contains (xs ++ ys)) ys b second.among (in_back xs ys))));
+  alike = λ all up_all inside t.
+      let in_xs = of_members (Contains all) (xs ++ ys) xs (in_front xs ys) inside in
+      let in_ys = of_members (Contains all) (xs ++ ys) ys (in_back xs ys) inside in
+      let all_a = recursion_from_All (Contains all) a (of_members (Contains all) xs a first.among in_xs) in
+      let all_b = recursion_from_All (Contains all) b (of_members (Contains all) ys b second.among in_ys) in
+      sym (list_any-IsPermutation t (a ++ missing a b) c union)
+      ∙ any_united all up_all t a b all_a all_b
+      ∙ list_any-append t a b
+      ∙ ap₂ (λ p q. p || q) (first.alike all up_all in_xs t) (second.alike all up_all in_ys t)
+      ∙ sym (list_any-append t xs ys);
+}
+
+-- ---- lists
+abbrev pub flat : List Cols → List Post
+flat lists = flat_map (λ l. l.posts) lists
+
+pub flat_one : (l : Cols) → flat (l ∷ []) ≡ l.posts
+flat_one l = append-nil l.posts
+
+pub flat_two : (a b : Cols) → flat (a ∷ b ∷ []) ≡ a.posts ++ b.posts
+flat_two a b = ap (λ xs. a.posts ++ xs) (append-nil b.posts)
+
+pub flat_more : (lists : List Cols) (l : Cols) → flat (lists ++ l ∷ []) ≡ flat lists ++ l.posts
+flat_more lists l = flat_map-append (λ (x : Cols). x.posts) lists (l ∷ []) ∙ ap (λ xs. flat lists ++ xs) (append-nil l.posts)
+
+-- ---- the answers of the recursion by halves
+sorted_at : (lists : List Cols) (k : ℕ) (l : Cols) → All (λ l. AreSorted l.posts) lists → k < length lists → l ≡ get_or lists k l → AreSorted l.posts
+sorted_at lists k l up lt is = subst (λ (x : Cols). AreSorted x.posts) (sym is) (up k l lt)
+
+pub of_none : (lists : List Cols) (posts : List Post) → length lists < 1 → posts ≡ [] → IsOrdered (flat lists) posts
+of_none [] posts few is = subst (IsOrdered []) (sym is) ordered_none
+of_none (x ∷ lists) posts few is = absurd (omega (arith, few))
+
+pub of_one : (lists : List Cols) (l : Cols) (posts : List Post) → All (λ l. AreSorted l.posts) lists → length lists < 2 → 1 ≤ length lists → l ≡ get_or lists 0 l
+    → posts ≡ l.posts → IsOrdered (flat lists) posts
+of_one [] l posts up few some is same = absurd (omega (arith, some))
+of_one (x ∷ []) l posts up few some is same =
+    let own = sorted_at (x ∷ []) 0 l up (omega arith) is in
+    subst (IsOrdered (flat (x ∷ []))) (sym same)
+    (subst (λ rows. IsOrdered rows l.posts) (sym (flat_one x ∙ ap (λ (y : Cols). y.posts) (sym is))) (ordered_itself l.posts own))
+of_one (x ∷ y ∷ lists) l posts up few some is same = absurd (omega (arith, few))
+
+pub of_two : (lists : List Cols) (a b : Cols) (c : List Post) → All (λ l. AreSorted l.posts) lists → length lists < 3 → 2 ≤ length lists → a ≡ get_or lists 0 a
+    → b ≡ get_or lists 1 b → IsUnion a.posts b.posts c → AreSorted c → IsOrdered (flat lists) c
+of_two [] a b c up few some is_a is_b union sorted = absurd (omega (arith, some))
+of_two (x ∷ []) a b c up few some is_a is_b union sorted = absurd (omega (arith, some))
+of_two (x ∷ y ∷ []) a b c up few some is_a is_b union sorted =
+    let first = ordered_itself a.posts (sorted_at (x ∷ y ∷ []) 0 a up (omega arith) is_a) in
+    let second = ordered_itself b.posts (sorted_at (x ∷ y ∷ []) 1 b up (omega arith) is_b) in
+    subst (λ rows. IsOrdered rows c)
+    (sym (flat_two x y ∙ ap₂ (λ (p q : Cols). p.posts ++ q.posts) (sym is_a) (sym is_b)))
+    (united_ordered a.posts b.posts a.posts b.posts c first second union sorted)
+of_two (x ∷ y ∷ z ∷ lists) a b c up few some is_a is_b union sorted = absurd (omega (arith, few))
+
+pub of_halves : (lists front back : List Cols) (n : ℕ) (a b c : List Post) → front ≡ take n lists → back ≡ drop n lists → IsOrdered (flat front) a
+    → IsOrdered (flat back) b → IsUnion a b c → AreSorted c → IsOrdered (flat lists) c
+of_halves lists front back n a b c is_front is_back first second union sorted =
+    subst (λ rows. IsOrdered rows c)
+    (sym (flat_map-append (λ (x : Cols). x.posts) front back) ∙ ap flat (ap₂ (λ x y. x ++ y) is_front is_back ∙ take-append-drop n lists))
+    (united_ordered (flat front) (flat back) a b c first second union sorted)
+
+-- a list that was taken out alone, or none
+pub of_popped : (lists rest : List Cols) (l : Cols) → All (λ l. AreSorted l.posts) lists → length lists ≤ 1 → lists ≡ rest ++ l ∷ [] → IsOrdered (flat lists) l.posts
+of_popped lists [] l up few is =
+    subst (λ ls. IsOrdered (flat ls) l.posts) (sym is)
+    (of_one (l ∷ []) l l.posts (subst (All (λ l. AreSorted l.posts)) is up) (omega arith) (omega arith) refl refl)
+of_popped lists (x ∷ rest) l up few is = absurd (let long = ap length is ∙ ap suc (length-append rest (l ∷ [])) in omega (arith, few, long))
+
+pub none_popped : (lists rest : List Cols) (m : ℕ) → m ≡ length lists → lists ≡ rest ++ [] → rest ≡ take (m - 1) lists → length lists < 1
+none_popped lists rest m long same is =
+    let a = ap length same ∙ length-append rest [] in
+    let b = ap length is ∙ length-take (m - 1) lists in
+    omega (arith, long, a, b)
+
+flat_holds : (P : Post → Type 0) (lists : List Cols) → AllByRecursion (λ l. All P l.posts) lists → All P (flat lists)
+flat_holds P [] h = All-nil P
+flat_holds P (l ∷ lists) h = All-append P l.posts (flat lists) h.0 (flat_holds P lists h.1)
+
+pub lists_within : (i : IndexView) (lists : List Cols) (found : List Post) → All (λ l. AreWithin i l.posts) lists → IsOrdered (flat lists) found
+    → AreWithin i found
+lists_within i lists found within o =
+    let P : Post → Type 0 = IsWithin i.docs (length i.words) in
+    let each = all_then (λ (l : Cols). AreWithin i l.posts) (λ l. All P l.posts) (λ l h. h.within) lists
+    (recursion_from_All (λ l. AreWithin i l.posts) lists within) in
+    record { sorted = o.sorted; within = of_members P (flat lists) found o.among (flat_holds P lists each) }
+
+-- ---- the rows of chains
+module _ (s : Stock) (chains : List Chain) where
+  abbrev k : Corpus
+  k = corpus_in s
+
+  -- one list for each of them
+  pub record ListsSoFar (i : ℕ) (posts : List Post) : Type 0 where
+    pub rows : rows_at s.words posts ≡ flat_map (λ rows. rows) (map (rows_of_chain k) (take i chains))
+    pub among : All (Contains s.posts) posts
+
+  pub lists_begin : (posts : List Post) → posts ≡ [] → ListsSoFar 0 posts
+  lists_begin posts is = record { rows = ap (rows_at s.words) is; among = subst (All (Contains s.posts)) (sym is) (All-nil (Contains s.posts)) }
+
+  pub lists_go_on : (i : ℕ) (x : Chain) → i < length chains → x ≡ get_or chains i x → (posts next now : List Post) → ListsSoFar i posts
+      → HasRows s (rows_of_chain k x) next → now ≡ posts ++ next → ListsSoFar (i + 1) now
+  lists_go_on i x l at posts next now so_far more is =
+      let f : Chain → List Row = rows_of_chain k in
+      let taken : map f (take (i + 1) chains) ≡ map f (take i chains) ++ f x ∷ [] =
+      ap (map f) (take_more chains i x l) ∙ map-append f (take i chains) (get_or chains i x ∷ []) ∙ ap (λ y. map f (take i chains) ++ f y ∷ []) (sym at) in
+      record {
+        rows = ap (rows_at s.words) is ∙ map-append (row_of s.words) posts next ∙ ap₂ (λ a b. a ++ b) so_far.rows (more.is ∙ sym (append-nil (f x)))
+            ∙ sym (flat_map-append (λ rows. rows) (map f (take i chains)) (f x ∷ [])) ∙ ap (flat_map (λ rows. rows)) (sym taken);
+        among = subst (All (Contains s.posts)) (sym is) (All-append (Contains s.posts) posts next so_far.among more.picked.among);
+      }
+
+  pub lists_end : IsStocked s → (p : Part) → chains ≡ (out-Part p).chains → (i : ℕ) (posts found : List Post) → length chains ≤ i → ListsSoFar i posts
+      → IsOrdered posts found → HasRows s (rows_of_part k p).rows found
+  lists_end stocked p are i posts found l so_far o =
+      let among = of_members (Contains s.posts) posts found o.among so_far.among in
+      record {
+        is = members_are by_row by_row_total by_row_exact (rows_at s.words found) (flat_map (λ rows. rows) (map (rows_of_chain k) (take i chains)))
+            (rows_rise s.words stocked.words found (picked_words s found stocked among) o.sorted)
+            (λ q.
+            any_through (row_of s.words) (eq_by_cmp by_row q) found
+            ∙ o.alike s.posts stocked.sorted so_far.among (λ p. eq_by_cmp by_row q (row_of s.words p))
+            ∙ sym (any_through (row_of s.words) (eq_by_cmp by_row q) posts)
+            ∙ ap (list_any (eq_by_cmp by_row q)) so_far.rows)
+            ∙ ap (λ cs. union_of (map (rows_of_chain k) cs)) (take_all i chains l ∙ are) ∙ sym (ap (λ (r : PartRows). r.rows) (part_rows-is k p));
+        picked = record { sorted = o.sorted; among = among };
+      }

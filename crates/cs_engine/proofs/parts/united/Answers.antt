@@ -1,0 +1,11 @@
+use Rattle.std.proofs.Common.{arith}
+use Rattle.cs_engine.proofs.AlternativesLemmas.{none_popped, of_none, of_popped}
+use Rattle.cs_engine.proofs.parts.united.Goals as goal
+
+pub returns-in-Some : goal.returns-in-Some
+returns-in-Some c = of_popped c.args.lists.items c.pop.new.self.items c.in-Some.only c.requires (omega (arith, c.if-len-gt1.false, c.len.ensures, c.args.lists.ok.0))
+    c.in-Some.ensures.items
+
+pub returns : goal.returns
+returns c = of_none c.args.lists.items c.new.result.posts (none_popped c.args.lists.items c.pop.new.self.items _ c.args.lists.ok.0 c.in-None.ensures.items c.pop.ensures.rest)
+    c.new.ensures
