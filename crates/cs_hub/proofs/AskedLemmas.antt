@@ -4,6 +4,7 @@
 --   some_said, some_starved, some_delivered, some_refused      what was sent, whatever it was
 --   before_none, want_before      nothing was asked: there was no head, or no memory
 --   want_for, sent_for            what was sent for one head
+--   sent_less                     where less is claimed of what was sent
 --   before_stop                   a head behind which the connection is to be closed
 --   asked_both, enough_both, memory_both      heads behind heads
 --   in_turn_both                  requests behind requests
@@ -13,7 +14,8 @@
 --   asks_below, asks_all, asks_sent, starved_for      how many answers there are; what was asked for one head, by what was sent
 --   turned_goes, turned_stops, turned_head     a head was answered
 --   turned_held, turned_long      no head ends there
---   along_start, along_next, along_hold, along_stop    the way through the bytes
+--   cut_here                      heads with no bytes behind
+--   along_start, along_next, along_hold, along_rest, along_stop    the way through the bytes
 --   asks_counted, asks_of_line    the bytes of a piece that count, and of a connection that is kept
 --   sent_open, refused_close      what is known of a response by what was sent
 --   few_titles, read_in           one answer of an engine
@@ -58,17 +60,17 @@ use Rattle.cs_query.specs.declared.request.ReqFault.{ReqFault}
 use Rattle.cs_query.specs.declared.request.ReqFault.TheVariants as faults
 use Rattle.cs_hub.specs.Asked.{InTurn, AsksOf, AsksAsSent, AsksAlong, AsksBy, SentFor, Standing, EngineLeaves}
 use Rattle.cs_hub.specs.DueReads.{Answered, AnswersWithin, AreDue, HasMemory, SentAt, SentBefore, bytes_behind, bytes_to_answer, closes_behind, goes_on}
-use Rattle.cs_hub.specs.DueReads.{IsPartOf, IsResponseBy, IsTextBy, SentBy, heads_on, read_failures, is_want, reply_in, requests_by, requests_in, requests_of, requests_on, requests_to}
-use Rattle.cs_hub.specs.HubFollowing.{Slots, left_at}
+use Rattle.cs_hub.specs.DueReads.{AreResponsesBy, IsPartOf, IsResponseBy, IsRest, IsTextBy, IsWholeBy, SentBy, heads_on, read_failures, is_want, reply_in, requests_by, requests_in, requests_of, requests_on, requests_to}
+use Rattle.cs_hub.specs.HubFollowing.{Lefts, left_at}
 use Rattle.cs_hub.specs.Responding.{response, IsJudgedSo}
-use Rattle.cs_hub.specs.Speaking.{Said, Spoke, Starved}
+use Rattle.cs_hub.specs.Speaking.{SaidOn, Spoke, Starved}
 use Rattle.cs_hub.specs.Streams.{RoseBy}
 use Rattle.cs_hub.specs.Turns.{Delivered, HoldsBytes, IsTurnedAway, IsSent}
 use Rattle.cs_hub.specs.declared.answer.Answer.{Answer}
 use Rattle.cs_hub.specs.declared.reading.Turn.{Turn}
 use Rattle.cs_hub.specs.declared.reading.Turn.TheVariants as turns
 use Rattle.cs_hub.proofs.ByLemmas.{are_both, are_one, by_all, by_behind, memory_part, whole_part}
-use Rattle.cs_hub.proofs.UnreadHeads.{closes_by, heads-closes, heads-goes_on, heads-head, heads-long, heads-more, requests-none}
+use Rattle.cs_hub.proofs.UnreadHeads.{closes_by, heads-closes, heads-goes_behind, heads-head, heads-long, heads-more, requests-none}
 use Rattle.cs_hub.proofs.ServedLemmas.{bytes_both}
 use Rattle.cs_hub.proofs.SpeakLemmas.{itself, rose_both, rose_none, rose_one, spoke_both, spoke_nothing}
 use Rattle.cs_hub.proofs.ConnectionSlots.{set_at}
@@ -84,12 +86,16 @@ requests_length [] = refl
 requests_length (a ∷ xs) = ap suc (requests_length xs)
 
 -- ---- what was sent
+-- nothing follows from what can't be
+pub by_nothing : (P : Type 0) → false ≡ true → P
+by_nothing P e = absurd cc
+
 -- a response was sent on the connection, or the memory response, whole or not, perhaps nothing
 abbrev pub Some_said : ℕ → Response → Option Talk → Option Talk → Type 0
 Some_said c r talk talk' =
     (part : List ℕ) × (fails : Bool) × Spoke c part fails talk talk' × (IsPartOf (response_bytes r) part ⊎ IsPartOf memory_bytes part)
 
-some_said : (c : ℕ) (text : List ℕ) (whole : Bool) (talk talk' : Option Talk) → Said c text whole talk talk'
+some_said : (c : ℕ) (text : List ℕ) (whole : Bool) (talk talk' : Option Talk) → SaidOn c text whole talk talk'
     → (part : List ℕ) × (fails : Bool) × Spoke c part fails talk talk' × IsPartOf text part
 some_said c text true talk talk' h = (text, false, h, whole_part text)
 some_said c text false talk talk' h = (take h.0 text, true, h.1, (h.0, refl))
@@ -108,7 +114,7 @@ some_refused c talk talk' (inl h) = some_delivered c too_long h.0 talk talk' h.1
 some_refused c talk talk' (inr h) = some_starved c too_long talk talk' h
 
 -- nothing is asked where there is no head
-before_none : (c : ℕ) (b : List ℕ) (talk talk' : Option Talk) → heads_on b ≡ [] → Some_said c too_long talk talk' → SentBefore c b talk talk' []
+before_none : (c : ℕ) (b : List ℕ) (talk talk' : Option Talk) → heads_on b ≡ [] → Some_said c too_long talk talk' → SentBefore c false b talk talk' []
 before_none c b talk talk' none h = record {
   sent = [];
   part = h.0;
@@ -117,9 +123,10 @@ before_none c b talk talk' none h = record {
   by = subst (λ l. IsTextBy l [] h.0) (sym none) h.3;
   enough = omega arith;
   all = inl (All-nil (λ (a : Answered). is_want a.1 ≡ false), sym (ap (λ l. length (requests_to l)) none));
+  whole = by_nothing (IsWholeBy [] (heads_on b) [] h.0 h.1);
 }
 
-want_before : (c : ℕ) (b : List ℕ) (whole : Bool) (talk talk' : Option Talk) → Said c memory_bytes whole talk talk' → SentBefore c b talk talk' []
+want_before : (c : ℕ) (b : List ℕ) (whole : Bool) (talk talk' : Option Talk) → SaidOn c memory_bytes whole talk talk' → SentBefore c false b talk talk' []
 want_before c b true talk talk' h = record {
   sent = [];
   part = memory_bytes;
@@ -128,6 +135,7 @@ want_before c b true talk talk' h = record {
   by = memory_part (heads_on b) [] memory_bytes (whole_part memory_bytes);
   enough = omega arith;
   all = inr (inr refl);
+  whole = by_nothing (IsWholeBy [] (heads_on b) [] memory_bytes false);
 }
 want_before c b false talk talk' h = record {
   sent = [];
@@ -137,18 +145,15 @@ want_before c b false talk talk' h = record {
   by = memory_part (heads_on b) [] (take h.0 memory_bytes) (h.0, refl);
   enough = omega arith;
   all = inr (inl refl);
+  whole = by_nothing (IsWholeBy [] (heads_on b) [] (take h.0 memory_bytes) true);
 }
 
 -- ---- one head
--- nothing follows from what can't be
-pub by_nothing : (P : Type 0) → false ≡ true → P
-by_nothing P e = absurd cc
-
 -- the response was sent whole
 abbrev Whole : ℕ → List ℕ → List Answered → Option Talk → Option Talk → Type 0
 Whole c h xs talk talk' = (r : Response) × IsResponseBy h xs r × Spoke c (response_bytes r) false talk talk'
 
-want_for : (c : ℕ) (h : List ℕ) (whole : Bool) (talk talk' : Option Talk) (xs : List Answered) → Said c memory_bytes whole talk talk'
+want_for : (c : ℕ) (h : List ℕ) (whole : Bool) (talk talk' : Option Talk) (xs : List Answered) → SaidOn c memory_bytes whole talk talk'
     → SentFor c false h talk talk' xs
 want_for c h true talk talk' xs said = record {
   part = memory_bytes;
@@ -209,7 +214,7 @@ all_stop c goes h b talk talk' xs P off alone (inr p) = inr p
 before_stop : (c : ℕ) (goes : Bool) (h b : List ℕ) (later : List (List ℕ)) (talk talk' : Option Talk) (xs : List Answered) → goes ≡ false
     → length xs ≤ length (requests_in (judge h)) → heads_on b ≡ h ∷ later → (closes_behind (judge h) ≡ true → heads_on b ≡ h ∷ [])
     → SentFor c goes h talk talk' xs
-    → SentBefore c b talk talk' xs
+    → SentBefore c false b talk talk' xs
 before_stop c goes h b later talk talk' xs off few is alone s = record {
   sent = [];
   part = s.part;
@@ -219,13 +224,28 @@ before_stop c goes h b later talk talk' xs off few is alone s = record {
   enough = let first = ap (λ l. length (requests_to (take 1 l))) is in let one = ap length (append-nil (requests_in (judge h))) in
       omega (arith, few, first, one);
   all = all_stop c goes h b talk talk' xs ((s.fails ≡ true) ⊎ (s.part ≡ memory_bytes)) off alone s.all;
+  whole = by_nothing (IsWholeBy [] (heads_on b) xs s.part s.fails);
+}
+
+-- of a connection that doesn't go on less is said
+pub sent_less : (c : ℕ) (goes less : Bool) (b : List ℕ) (talk talk' : Option Talk) (xs : List Answered) → (less ≡ true → goes ≡ true)
+    → SentBefore c goes b talk talk' xs → SentBefore c less b talk talk' xs
+sent_less c goes less b talk talk' xs h s = record {
+  sent = s.sent;
+  part = s.part;
+  fails = s.fails;
+  spoke = s.spoke;
+  by = s.by;
+  enough = s.enough;
+  all = s.all;
+  whole = λ e. s.whole (h e);
 }
 
 -- ---- heads behind heads
-asked_both : (hs ks : List (List ℕ)) → requests_to (hs ++ ks) ≡ requests_to hs ++ requests_to ks
+pub asked_both : (hs ks : List (List ℕ)) → requests_to (hs ++ ks) ≡ requests_to hs ++ requests_to ks
 asked_both hs ks = flat_map-append (λ h. requests_in (judge h)) hs ks
 
-enough_both : (hs left all : List (List ℕ)) (xs ys : List Answered) (m n total : ℕ) → all ≡ hs ++ left → requests_to hs ≡ requests_of xs → length hs ≡ m
+pub enough_both : (hs left all : List (List ℕ)) (xs ys : List Answered) (m n total : ℕ) → all ≡ hs ++ left → requests_to hs ≡ requests_of xs → length hs ≡ m
     → total ≡ m + n → length ys ≤ length (requests_to (take (n + 1) left))
     → length (xs ++ ys) ≤ length (requests_to (take (total + 1) all))
 enough_both hs left all xs ys m n total cut asked each sum few =
@@ -237,7 +257,7 @@ enough_both hs left all xs ys m n total cut asked each sum few =
     let front : length (requests_to hs) ≡ length xs = ap length asked ∙ requests_length xs in
     omega (arith, whole, front, few, length-append xs ys)
 
-memory_both : (xs ys : List Answered) (b left : List ℕ) (P : Type 0) → requests_on b ≡ requests_of xs ++ requests_on left → HasMemory xs
+pub memory_both : (xs ys : List Answered) (b left : List ℕ) (P : Type 0) → requests_on b ≡ requests_of xs ++ requests_on left → HasMemory xs
     → (HasMemory ys × (length ys ≡ length (requests_on left))) ⊎ P → (HasMemory (xs ++ ys) × (length (xs ++ ys) ≡ length (requests_on b))) ⊎ P
 memory_both xs ys b left P cut h (inl k) =
     let count : length (xs ++ ys) ≡ length (requests_on b) =
@@ -255,6 +275,11 @@ is_piece events.Over = false
 pub none_ok : {T E : Type 0} (r : Result T E) (P : T → Type 0) → IsErr r → IfOk r P
 none_ok (Ok x) P h = absurd cc
 none_ok (Err e) P h = tt
+
+-- where no bytes come behind
+pub cut_here : (b left : List ℕ) (heads : List (List ℕ)) → ((more : List ℕ) → heads_on (b ++ more) ≡ heads ++ heads_on (left ++ more))
+    → heads_on b ≡ heads ++ heads_on left
+cut_here b left heads h = ap heads_on (sym (append-nil b)) ∙ h [] ∙ ap (λ l. heads ++ heads_on l) (append-nil left)
 
 module _ {K : Type 0} (Leaves : K → Request → Result Reply FetchFault → K → Type 0) where
   pub in_turn_both : (xs ys : List Answered) (s t u : K) → InTurn Leaves xs s t → InTurn Leaves ys t u → InTurn Leaves (xs ++ ys) s u
@@ -301,8 +326,8 @@ module _ {K : Type 0} (Leaves : K → Request → Result Reply FetchFault → K 
   pub asks_no_bytes : (whole : Bool) (s : K) (Sent : List Answered → Type 0) → Sent [] → AsksAsSent Leaves whole (requests_on []) s s Sent
   asks_no_bytes whole s Sent h = subst (λ l. AsksAsSent Leaves whole l s s Sent) (sym requests-none) (record { asks = asks_nothing whole s; sent = h })
 
-  pub unasked : (old new : Slots) (v : Event) (piece : List ℕ) (s : K) (talk talk' : Option Talk) → is_piece v ≡ false
-      → AsksAsSent Leaves (goes_on new v) (requests_on (bytes_to_answer old v piece)) s s (SentAt v (bytes_to_answer old v piece) talk talk')
+  pub unasked : (old new : Lefts) (v : Event) (piece : List ℕ) (s : K) (talk talk' : Option Talk) → is_piece v ≡ false
+      → AsksAsSent Leaves (goes_on new v) (requests_on (bytes_to_answer old v piece)) s s (SentAt v (goes_on new v) (bytes_to_answer old v piece) talk talk')
   unasked old new (events.Opened c) piece s talk talk' none = asks_no_bytes true s (λ xs. xs ≡ []) refl
   unasked old new (events.Piece c n) piece s talk talk' none = absurd cc
   unasked old new (events.Ended c) piece s talk talk' none = asks_no_bytes true s (λ xs. xs ≡ []) refl
@@ -398,12 +423,12 @@ module _ {K : Type 0} (Leaves : K → Request → Result Reply FetchFault → K 
     turned_goes on stays =
         let said = a.sent.whole on in
         let is = head_bytes u r skip end used span.total span.within span.front in
-        let e : heads_on (u ++ r) ≡ own ∷ heads_on (drop end (u ++ r)) =
-        subst (λ x. heads_on (u ++ r) ≡ x ∷ heads_on (drop end (u ++ r))) (sym is)
-        (heads-goes_on (u ++ r) skip end span.found (subst (λ x. closes_behind (judge x) ≡ false) is stays)) in
+        let e : (more : List ℕ) → heads_on ((u ++ r) ++ more) ≡ own ∷ heads_on (drop end (u ++ r) ++ more) =
+        λ more. subst (λ x. heads_on ((u ++ r) ++ more) ≡ x ∷ heads_on (drop end (u ++ r) ++ more)) (sym is)
+        (heads-goes_behind (u ++ r) more skip end span.found (subst (λ x. closes_behind (judge x) ≡ false) is stays)) in
         record {
           heads = own ∷ [];
-          cut = e ∙ ap (λ l. own ∷ heads_on l) (behind_head u r end used span.total);
+          cut = λ more. e more ∙ ap (λ l. own ∷ heads_on (l ++ more)) (behind_head u r end used span.total);
           answered = a.asks.answered;
           asked = append-nil (requests_in (judge own)) ∙ a.asks.cut ∙ ap (λ l. requests_of a.asks.answered ++ l) (a.asks.all on).0
               ∙ append-nil (requests_of a.asks.answered);
@@ -415,7 +440,7 @@ module _ {K : Type 0} (Leaves : K → Request → Result Reply FetchFault → K 
           by = are_one said.0 own a.asks.answered said.1;
         }
 
-    turned_stops : goes ≡ false → AsksAsSent Leaves false (requests_on (u ++ r)) s t (SentBefore c (u ++ r) talk talk')
+    turned_stops : goes ≡ false → AsksAsSent Leaves false (requests_on (u ++ r)) s t (SentBefore c false (u ++ r) talk talk')
     turned_stops off =
         let is = head_bytes u r skip end used span.total span.within span.front in
         let x = heads-head (u ++ r) skip end span.found in
@@ -439,7 +464,7 @@ module _ {K : Type 0} (Leaves : K → Request → Result Reply FetchFault → K 
       subst (λ x. AsksBy Leaves c u r x s t talk talk') (sym is) (turned_stops c u r skip end used false s t talk talk' span a refl)
 
   starved_stops : (c : ℕ) (b : List ℕ) (s : K) (talk talk' : Option Talk) → Starved c talk talk'
-      → AsksAsSent Leaves false (requests_on b) s s (SentBefore c b talk talk')
+      → AsksAsSent Leaves false (requests_on b) s s (SentBefore c false b talk talk')
   starved_stops c b s talk talk' h = record { asks = asks_none (requests_on b) s; sent = want_before c b h.0 talk talk' h.1 }
 
   pub turned_held : (c : ℕ) (u r u' : List ℕ) (turn : Turn) (s : K) (talk talk' : Option Talk) → frame (u ++ r) ≡ framed.More
@@ -449,7 +474,7 @@ module _ {K : Type 0} (Leaves : K → Request → Result Reply FetchFault → K 
   turned_held c u r u' turns.Stops s talk talk' f h = starved_stops c (u ++ r) s talk talk' h
 
   pub turned_long : (c : ℕ) (b : List ℕ) (s : K) (talk talk' : Option Talk) → frame b ≡ framed.TooLong → IsTurnedAway c talk talk'
-      → AsksAsSent Leaves false (requests_on b) s s (SentBefore c b talk talk')
+      → AsksAsSent Leaves false (requests_on b) s s (SentBefore c false b talk talk')
   turned_long c b s talk talk' f h =
       record { asks = asks_none (requests_on b) s; sent = before_none c b talk talk' (heads-long b f) (some_refused c talk talk' h) }
 
@@ -458,7 +483,7 @@ module _ {K : Type 0} (Leaves : K → Request → Result Reply FetchFault → K 
   along_start c b s talk =
       record {
         heads = [];
-        cut = refl;
+        cut = λ more. refl;
         answered = [];
         asked = refl;
         in_turn = refl;
@@ -473,7 +498,7 @@ module _ {K : Type 0} (Leaves : K → Request → Result Reply FetchFault → K 
       → AsksAlong Leaves c left last t v mid talk' → AsksAlong Leaves c b last s v talk talk'
   along_both c b left last s t v talk mid talk' h k = record {
     heads = h.heads ++ k.heads;
-    cut = h.cut ∙ ap (λ l. h.heads ++ l) k.cut ∙ sym (append_assoc h.heads k.heads (heads_on last));
+    cut = λ more. h.cut more ∙ ap (λ l. h.heads ++ l) (k.cut more) ∙ sym (append_assoc h.heads k.heads (heads_on (last ++ more)));
     answered = h.answered ++ k.answered;
     asked = asked_both h.heads k.heads ∙ ap₂ (λ x y. x ++ y) h.asked k.asked ∙ sym (requests_both h.answered k.answered);
     in_turn = in_turn_both h.answered k.answered s t v h.in_turn k.in_turn;
@@ -492,9 +517,9 @@ module _ {K : Type 0} (Leaves : K → Request → Result Reply FetchFault → K 
       (subst (λ l. AsksAlong Leaves c b l s v talk talk') (sym is) (along_both c b u left s t v talk mid talk' h k))
 
   pub along_hold : (c : ℕ) (whole : Bool) (b left : List ℕ) (s t u : K) (talk mid talk' : Option Talk) → AsksAlong Leaves c b left s t talk mid
-      → (heads_on left ≡ []) × (u ≡ t) × (talk' ≡ mid) → AsksAsSent Leaves whole (requests_on b) s u (SentBefore c b talk talk')
+      → (heads_on left ≡ []) × (u ≡ t) × (talk' ≡ mid) → AsksAsSent Leaves whole (requests_on b) s u (SentBefore c whole b talk talk')
   along_hold c whole b left s t u talk mid talk' h end =
-      let all : heads_on b ≡ h.heads = h.cut ∙ ap (λ l. h.heads ++ l) end.0 ∙ append-nil h.heads in
+      let all : heads_on b ≡ h.heads = cut_here b left h.heads h.cut ∙ ap (λ l. h.heads ++ l) end.0 ∙ append-nil h.heads in
       let asked : requests_on b ≡ requests_of h.answered = ap requests_to all ∙ h.asked in
       let count : length h.answered ≡ length (requests_on b) = omega (arith, ap length asked, requests_length h.answered) in
       let first : take (length h.sent + 1) (heads_on b) ≡ heads_on b = take_all (length h.sent + 1) (heads_on b) (omega (arith, ap length all, h.each)) in
@@ -515,14 +540,24 @@ module _ {K : Type 0} (Leaves : K → Request → Result Reply FetchFault → K 
           by = subst (λ l. SentBy h.sent l h.answered []) (sym all) (by_all h.sent h.heads h.answered h.by);
           enough = omega (arith, count, ap (λ l. length (requests_to l)) first);
           all = inl (h.memory, count);
+          whole = λ e. (subst (λ l. AreResponsesBy h.sent l h.answered) (sym all) h.by, refl, refl);
         };
       }
 
+  -- the bytes that are left are the unread ones
+  pub along_rest : (c : ℕ) (b left unread : List ℕ) (s t u : K) (talk mid talk' : Option Talk) → AsksAlong Leaves c b left s t talk mid
+      → (heads_on left ≡ []) × (u ≡ t) × (talk' ≡ mid) → unread ≡ left → IsRest b unread
+  along_rest c b left unread s t u talk mid talk' h end is = λ more.
+      let all : heads_on b ≡ h.heads = cut_here b left h.heads h.cut ∙ ap (λ l. h.heads ++ l) end.0 ∙ append-nil h.heads in
+      h.cut more ∙ ap₂ (λ x y. x ++ heads_on (y ++ more)) (sym all) (sym is)
+
   pub along_stop : (c : ℕ) (b left : List ℕ) (s t u : K) (talk mid talk' : Option Talk) → AsksAlong Leaves c b left s t talk mid
-      → AsksAsSent Leaves false (requests_on left) t u (SentBefore c left mid talk') → AsksAsSent Leaves false (requests_on b) s u (SentBefore c b talk talk')
+      → AsksAsSent Leaves false (requests_on left) t u (SentBefore c false left mid talk')
+      → AsksAsSent Leaves false (requests_on b) s u (SentBefore c false b talk talk')
   along_stop c b left s t u talk mid talk' h a =
+      let here = cut_here b left h.heads h.cut in
       let cut : requests_on b ≡ requests_of h.answered ++ requests_on left =
-      ap requests_to h.cut ∙ asked_both h.heads (heads_on left) ∙ ap (λ l. l ++ requests_on left) h.asked in
+      ap requests_to here ∙ asked_both h.heads (heads_on left) ∙ ap (λ l. l ++ requests_on left) h.asked in
       record {
         asks = record {
           answered = h.answered ++ a.asks.answered;
@@ -539,11 +574,12 @@ module _ {K : Type 0} (Leaves : K → Request → Result Reply FetchFault → K 
           spoke = subst (λ l. Spoke c l a.sent.fails talk talk')
               (sym (ap (λ l. l ++ a.sent.part) (bytes_both h.sent a.sent.sent) ∙ append_assoc (all_bytes h.sent) (all_bytes a.sent.sent) a.sent.part))
               (spoke_both c (all_bytes h.sent) (all_bytes a.sent.sent ++ a.sent.part) a.sent.fails talk mid talk' h.spoke a.sent.spoke);
-          by = subst (λ l. SentBy (h.sent ++ a.sent.sent) l (h.answered ++ a.asks.answered) a.sent.part) (sym h.cut)
+          by = subst (λ l. SentBy (h.sent ++ a.sent.sent) l (h.answered ++ a.asks.answered) a.sent.part) (sym here)
               (by_behind h.sent a.sent.sent h.heads (heads_on left) h.answered a.asks.answered a.sent.part h.by a.sent.by);
           enough = enough_both h.heads (heads_on left) (heads_on b) h.answered a.asks.answered (length h.sent) (length a.sent.sent)
-              (length (h.sent ++ a.sent.sent)) h.cut h.asked h.each (length-append h.sent a.sent.sent) a.sent.enough;
+              (length (h.sent ++ a.sent.sent)) here h.asked h.each (length-append h.sent a.sent.sent) a.sent.enough;
           all = memory_both h.answered a.asks.answered b left ((a.sent.fails ≡ true) ⊎ (a.sent.part ≡ memory_bytes)) cut h.memory a.sent.all;
+          whole = λ e. absurd cc;
         };
       }
 
@@ -559,23 +595,24 @@ module _ {K : Type 0} (Leaves : K → Request → Result Reply FetchFault → K 
       (subst (λ x. AsksAsSent Leaves whole (requests_on (unread ++ x)) s t (Sent (unread ++ x))) e a)
 
   -- a connection that was kept, and is put back or not
-  pub asks_of_line : (c : ℕ) (core core' : Slots) (l : Left) (piece : List ℕ) (kept : Option Left) (s t : K) (talk mid talk' : Option Talk)
+  pub asks_of_line : (c : ℕ) (core core' : Lefts) (l : Left) (piece : List ℕ) (kept : Option Left) (s t : K) (talk mid talk' : Option Talk)
       → core' ≡ slice_set core c kept → c < length core → Some l ≡ left_at core c → talk' ≡ mid
       → AsksAsSent Leaves (is_some kept) (requests_on (l.unread ++ take (MAX_CONNECTION_BYTES - l.taken) piece)) s t
-      (SentBefore c (l.unread ++ take (MAX_CONNECTION_BYTES - l.taken) piece) talk mid)
+      (SentBefore c (is_some kept) (l.unread ++ take (MAX_CONNECTION_BYTES - l.taken) piece) talk mid)
       → AsksAsSent Leaves (is_some (left_at core' c)) (requests_on (bytes_behind (left_at core c) piece)) s t
-      (SentBefore c (bytes_behind (left_at core c) piece) talk talk')
+      (SentBefore c (is_some (left_at core' c)) (bytes_behind (left_at core c) piece) talk talk')
   asks_of_line c core core' l piece kept s t talk mid talk' is within was same a =
       let at : left_at core' c ≡ kept = ap (λ k. left_at k c) is ∙ set_at core c c kept within ∙ ap (λ b. cond b kept (left_at core c)) (itself c) in
       subst (λ x. AsksAsSent Leaves (is_some x) (requests_on (bytes_behind (left_at core c) piece)) s t
-      (SentBefore c (bytes_behind (left_at core c) piece) talk talk')) (sym at)
-      (subst (λ x. AsksAsSent Leaves (is_some kept) (requests_on (bytes_behind x piece)) s t (SentBefore c (bytes_behind x piece) talk talk')) was
+      (SentBefore c (is_some x) (bytes_behind (left_at core c) piece) talk talk')) (sym at)
+      (subst (λ x. AsksAsSent Leaves (is_some kept) (requests_on (bytes_behind x piece)) s t
+      (SentBefore c (is_some kept) (bytes_behind x piece) talk talk')) was
       (subst (λ x. AsksAsSent Leaves (is_some kept) (requests_on (l.unread ++ take (MAX_CONNECTION_BYTES - l.taken) piece)) s t
-      (SentBefore c (l.unread ++ take (MAX_CONNECTION_BYTES - l.taken) piece) talk x)) (sym same) a))
+      (SentBefore c (is_some kept) (l.unread ++ take (MAX_CONNECTION_BYTES - l.taken) piece) talk x)) (sym same) a))
 
 -- ---- an engine
 -- a count of reads that rose twice
-reads_both : (m n before mid now : ℕ) → ReadsWithin m before mid → ReadsWithin n mid now → ReadsWithin (m + n) before now
+pub reads_both : (m n before mid now : ℕ) → ReadsWithin m before mid → ReadsWithin n mid now → ReadsWithin (m + n) before now
 reads_both m n before mid now h k = record { later = omega (arith, h.later, k.later); within = omega (arith, h.within, k.within) }
 
 caused_rose : (read : Bool) (before now : ℕ) → CausedReads read before now → RoseBy (cond read 1 0) before now

@@ -3,6 +3,7 @@
 --   bytes_that_came-push, ended_on-push      what came on one connection, with one event more
 --   sum_at, sum_new                   sums over connections, of which one has another value
 --   piece_stays, opened_stays, ended_stays, over_stays      the core follows the hub after each event
+--   silent_before     what came on a connection that wasn't opened
 --   at_event                          it does where the event is known to be this one
 --   others_by, piece_others, opened_others, ended_others    the others stay as they are
 --   came_spoke, piece_came, opened_came     no event came
@@ -24,9 +25,9 @@ use Rattle.cs_model_serving.specs.Responses.{Response, memory_bytes}
 use Rattle.cs_model_serving.specs.Connections.{Left, StandsLive, reads, changes}
 use Rattle.cs_model_serving.proofs.CountLemmas.{reads-append, changes-append}
 use Rattle.cs_hub.specs.Streams.{bytes_at, bytes_that_came, ended_at, ended_on, sum_below}
-use Rattle.cs_hub.specs.HubFollowing.{Slots, left_at, HasLive, HasLiveBut, IsWhole, IsRight, AreRight, StaysRight, IsOther, LeavesOthers}
+use Rattle.cs_hub.specs.HubFollowing.{Lefts, left_at, HasLive, HasLiveBut, IsWhole, IsRight, AreRight, StaysRight, IsOther, LeavesOthers}
 use Rattle.cs_hub.specs.Rounds.{Acted, Greets, Heeds, KeepsCame}
-use Rattle.cs_hub.specs.Speaking.{Did, Spoke, Said}
+use Rattle.cs_hub.specs.Speaking.{Did, Spoke, SaidOn}
 use Rattle.cs_hub.proofs.SpeakLemmas.{itself, by_conn, same_conn, spoke_nothing, rose_none}
 use Rattle.cs_hub.proofs.ActLemmas.{acted_live, ended_acted}
 use Rattle.cs_hub.proofs.RightLemmas.{Advances, after_piece, right_as, fresh_right, refused_right, cut_right, let_go, or_true, or_false}
@@ -99,10 +100,10 @@ pub record IsOf (c : ℕ) (e : Came) (s0 s : Listening) : Type 0 where
   pub over : s.over ≡ s0.over
 
 -- how a connection stands by what a hub tells
-abbrev pub RightAt : Corpus → Slots → Listening → Talk → (ℕ → List Response) → ℕ → Type 0
+abbrev pub RightAt : Corpus → Lefts → Listening → Talk → (ℕ → List Response) → ℕ → Type 0
 RightAt k core s t sent d = IsRight k (bytes_that_came d t.came) (sent_on t d) (set.contains t.broken d) (ended_on d t.came || s.over) (left_at core d) (sent d)
 
-module _ (k : Corpus) (core core' : Slots) (c : ℕ) (x : Option Left) (s0 s s' : Listening) (t0 u : Talk) (e : Came) (more : List ℕ) (fails : Bool)
+module _ (k : Corpus) (core core' : Lefts) (c : ℕ) (x : Option Left) (s0 s s' : Listening) (t0 u : Talk) (e : Came) (more : List ℕ) (fails : Bool)
     (sent : ℕ → List Response) (own : List Response)
     (acted : Acted core core' c x s s') (did : Did c more fails (hears e t0) u) (own_event : IsOf c e s0 s)
     (before : (d : ℕ) → d < s0.opened → RightAt k core s0 t0 sent d)
@@ -166,7 +167,7 @@ piece_here k b s piece broken ended x old kept fails more sent later e h advance
     subst (λ y. IsRight k (b ++ piece) (s ++ more) y ended kept (sent ++ later)) (sym (ap (λ y. fails || y) l.0.whole ∙ or_false fails)) is
 
 pub piece_stays : (Told : Corpus → Type 0) (k : Corpus) → Told k
-    → (core core' : Slots) (c n : ℕ) (piece : List ℕ) (s s' : Listening) (m o : ℕ) (talk talk' : Option Talk) → HasLiveBut core s (Piece c n)
+    → (core core' : Lefts) (c n : ℕ) (piece : List ℕ) (s s' : Listening) (m o : ℕ) (talk talk' : Option Talk) → HasLiveBut core s (Piece c n)
     → IsWhole (Piece c n) piece → Heeds Told core core' c piece s s' m o talk talk' → (IsOrderly s talk → IsOrderly s' talk')
     → StaysRight k core core' (Piece c n) piece s s' talk talk' m o
 piece_stays Told k over core core' c n piece s s' m o talk talk' but whole d orderly = record {
@@ -219,7 +220,7 @@ silent_one c (Piece d n) bytes h = (ap (λ b. cond b bytes []) (unequal c d h), 
 silent_one c (Ended d) bytes h = (refl, unequal c d h)
 silent_one c Over bytes h = (refl, refl)
 
-silent_before : (c : ℕ) (es : List Came) → All (λ e. IsNotOf c e.event) es → (bytes_that_came c es ≡ []) × (ended_on c es ≡ false)
+pub silent_before : (c : ℕ) (es : List Came) → All (λ e. IsNotOf c e.event) es → (bytes_that_came c es ≡ []) × (ended_on c es ≡ false)
 silent_before c [] h = (refl, refl)
 silent_before c (e ∷ es) h =
     let one = silent_one c e.event e.bytes (All-head (λ (e : Came). IsNotOf c e.event) e es h) in
@@ -230,21 +231,21 @@ below_next : (d c n m : ℕ) → m ≡ n + 1 → d < m → (d == c) ≡ false �
 below_next d c n m e less other is = grind (arith, nat_tests)
 
 -- what was sent on it, and how it stands
-pub record Greeted (c : ℕ) (x : Option Left) (core core' : Slots) (s s' : Listening) (talk talk' : Option Talk) : Type 0 where
+pub record Greeted (c : ℕ) (x : Option Left) (core core' : Lefts) (s s' : Listening) (talk talk' : Option Talk) : Type 0 where
   pub more : List ℕ
   pub fails : Bool
   pub spoke : Spoke c more fails talk talk'
   pub acted : Acted core core' c x s s'
   pub stands : (k : Corpus) → IsRight k [] more fails false x []
 
-greeted_none : (core core' : Slots) (c : ℕ) (s s' : Listening) (talk talk' : Option Talk) → Acted core core' c None s s' → (whole : Bool)
-    → Said c memory_bytes whole talk talk' → (x : Option Left) × Greeted c x core core' s s' talk talk'
+greeted_none : (core core' : Lefts) (c : ℕ) (s s' : Listening) (talk talk' : Option Talk) → Acted core core' c None s s' → (whole : Bool)
+    → SaidOn c memory_bytes whole talk talk' → (x : Option Left) × Greeted c x core core' s s' talk talk'
 greeted_none core core' c s s' talk talk' a true g =
     (None, record { more = memory_bytes; fails = false; spoke = g; acted = a; stands = λ k. refused_right k false })
 greeted_none core core' c s s' talk talk' a false g =
     (None, record { more = take g.0 memory_bytes; fails = true; spoke = g.1; acted = a; stands = λ k. cut_right k g.0 false })
 
-pub greeted : (core core' : Slots) (c : ℕ) (s s' : Listening) (talk talk' : Option Talk) → Greets core core' c s s' talk talk' → (x : Option Left)
+pub greeted : (core core' : Lefts) (c : ℕ) (s s' : Listening) (talk talk' : Option Talk) → Greets core core' c s s' talk talk' → (x : Option Left)
     × Greeted c x core core' s s' talk talk'
 greeted core core' c s s' talk talk' (inl g) = (
   Some (record { taken = 0; unread = [] }),
@@ -261,7 +262,7 @@ greeted core core' c s s' talk talk' (inr g) = greeted_none core core' c s s' ta
 or_false_is : (a b : Bool) → b ≡ false → (a || b) ≡ a
 or_false_is a b h = ap (λ x. a || x) h ∙ or_false a
 
-pub opened_stays : (k : Corpus) (core core' : Slots) (c : ℕ) (piece : List ℕ) (s s' : Listening) (m : ℕ) (talk talk' : Option Talk)
+pub opened_stays : (k : Corpus) (core core' : Lefts) (c : ℕ) (piece : List ℕ) (s s' : Listening) (m : ℕ) (talk talk' : Option Talk)
     → HasLiveBut core s (Opened c) → Greets core core' c s s' talk talk' → (IsOrderly s talk → IsOrderly s' talk')
     → StaysRight k core core' (Opened c) piece s s' talk talk' m m
 opened_stays k core core' c piece s s' m talk talk' but greets orderly = record {
@@ -298,7 +299,7 @@ opened_stays k core core' c piece s s' m talk talk' but greets orderly = record 
 }
 
 -- ---- a connection that ended
-pub ended_stays : (k : Corpus) (core core' : Slots) (c : ℕ) (piece : List ℕ) (s : Listening) (m : ℕ) (talk : Option Talk) → HasLiveBut core s (Ended c)
+pub ended_stays : (k : Corpus) (core core' : Lefts) (c : ℕ) (piece : List ℕ) (s : Listening) (m : ℕ) (talk : Option Talk) → HasLiveBut core s (Ended c)
     → core' ≡ slice_set core c None → StaysRight k core core' (Ended c) piece s s talk talk m m
 ended_stays k core core' c piece s m talk but sets = record {
   stays = λ s0 talk0 room i h e.
@@ -335,7 +336,7 @@ ended_stays k core core' c piece s m talk but sets = record {
 }
 
 -- ---- the end of all
-over_right : (k : Corpus) (core core' : Slots) (s0 s s' : Listening) (t0 u : Talk) (piece : List ℕ) (i : ℕ) → AreRight k core s0 t0 i
+over_right : (k : Corpus) (core core' : Lefts) (s0 s s' : Listening) (t0 u : Talk) (piece : List ℕ) (i : ℕ) → AreRight k core s0 t0 i
     → Did 0 [] false (hears (came_of Over piece) t0) u → ((d : ℕ) → (sent_on u d ≡ sent_on t0 d) × (set.contains u.broken d ≡ set.contains t0.broken d))
     → s ≡ record s0 { over = true } → s' ≡ record s { live = s'.live } → ((d : ℕ) → left_at core' d ≡ None) → AreRight k core' s' u (i + 0)
 over_right k core core' s0 s s' t0 u piece i a did same p q none =
@@ -360,7 +361,7 @@ still_told t u did d =
     by_conn (λ d. (sent_on u d ≡ sent_on t d) × (set.contains u.broken d ≡ set.contains t.broken d)) 0 d (did.own ∙ append-nil (sent_on t 0), did.whole)
     (did.others d)
 
-pub over_stays : (k : Corpus) (core core' : Slots) (piece : List ℕ) (s s' : Listening) (m : ℕ) (talk talk' : Option Talk) → talk' ≡ talk
+pub over_stays : (k : Corpus) (core core' : Lefts) (piece : List ℕ) (s s' : Listening) (m : ℕ) (talk talk' : Option Talk) → talk' ≡ talk
     → s' ≡ record s { live = s'.live } → ((d : ℕ) → left_at core' d ≡ None) → HasLive core' s' → (IsOrderly s talk → IsOrderly s' talk')
     → StaysRight k core core' Over piece s s' talk talk' m m
 over_stays k core core' piece s s' m talk talk' same q none live orderly = record {
@@ -378,7 +379,7 @@ over_stays k core core' piece s s' m talk talk' same q none live orderly = recor
 }
 
 -- ---- any event
-pub at_event : (k : Corpus) (core core' : Slots) (event e : Event) (piece : List ℕ) (s s' : Listening) (talk talk' : Option Talk) (m n : ℕ) → event ≡ e
+pub at_event : (k : Corpus) (core core' : Lefts) (event e : Event) (piece : List ℕ) (s s' : Listening) (talk talk' : Option Talk) (m n : ℕ) → event ≡ e
     → HasLiveBut core s event → IsWhole event piece
     → (HasLiveBut core s e → IsWhole e piece → StaysRight k core core' e piece s s' talk talk' m n)
     → StaysRight k core core' event piece s s' talk talk' m n
@@ -395,7 +396,7 @@ spoke_others c more fails (Some x) (Some y) h = λ t at u at' d other.
     subst (λ v. (sent_on u d ≡ sent_on v d) × (set.contains u.broken d ≡ set.contains v.broken d)) (same_Some x t at)
     (subst (λ v. (sent_on v d ≡ sent_on x d) × (set.contains v.broken d ≡ set.contains x.broken d)) (same_Some y u at') (h.others d other))
 
-pub others_by : (event : Event) (core core' : Slots) (c : ℕ) (x : Option Left) (s s' : Listening) (talk talk' : Option Talk) (more : List ℕ) (fails : Bool)
+pub others_by : (event : Event) (core core' : Lefts) (c : ℕ) (x : Option Left) (s s' : Listening) (talk talk' : Option Talk) (more : List ℕ) (fails : Bool)
     → ((d : ℕ) → IsOther event d → (d == c) ≡ false) → Spoke c more fails talk talk' → Acted core core' c x s s' → LeavesOthers event core core' s s' talk talk'
 others_by event core core' c x s s' talk talk' more fails is f a = record {
   left = λ d o. a.sets d ∙ ap (λ b. cond b x (left_at core d)) (is d o);
@@ -403,19 +404,19 @@ others_by event core core' c x s s' talk talk' more fails is f a = record {
   sent = λ t at u at' d o. spoke_others c more fails talk talk' f t at u at' d (is d o);
 }
 
-pub piece_others : (Told : Corpus → Type 0) (core core' : Slots) (c n : ℕ) (piece : List ℕ) (s s' : Listening) (m o : ℕ) (talk talk' : Option Talk)
+pub piece_others : (Told : Corpus → Type 0) (core core' : Lefts) (c n : ℕ) (piece : List ℕ) (s s' : Listening) (m o : ℕ) (talk talk' : Option Talk)
     → Heeds Told core core' c piece s s' m o talk talk' → LeavesOthers (Piece c n) core core' s s' talk talk'
 piece_others Told core core' c n piece s s' m o talk talk' d =
     let w = after_piece Told c d.old piece d.kept m o talk talk' d.received in
     others_by (Piece c n) core core' c d.kept s s' talk talk' w.1.more w.0 (λ q o. o) w.1.spoke d.acted
 
-pub opened_others : (core core' : Slots) (c : ℕ) (s s' : Listening) (talk talk' : Option Talk) → Greets core core' c s s' talk talk'
+pub opened_others : (core core' : Lefts) (c : ℕ) (s s' : Listening) (talk talk' : Option Talk) → Greets core core' c s s' talk talk'
     → LeavesOthers (Opened c) core core' s s' talk talk'
 opened_others core core' c s s' talk talk' greets =
     let g = greeted core core' c s s' talk talk' greets in
     others_by (Opened c) core core' c g.0 s s' talk talk' g.1.more g.1.fails (λ q o. o) g.1.spoke g.1.acted
 
-pub ended_others : (core core' : Slots) (c : ℕ) (s : Listening) (talk : Option Talk) → Acted core core' c None s s
+pub ended_others : (core core' : Lefts) (c : ℕ) (s : Listening) (talk : Option Talk) → Acted core core' c None s s
     → LeavesOthers (Ended c) core core' s s talk talk
 ended_others core core' c s talk a = others_by (Ended c) core core' c None s s talk talk [] false (λ q o. o) (spoke_nothing c talk) a
 
@@ -426,10 +427,10 @@ came_spoke c more fails None (Some u) h = absurd h
 came_spoke c more fails (Some t) None h = absurd h
 came_spoke c more fails (Some t) (Some u) h = ap Some h.came
 
-pub piece_came : (Told : Corpus → Type 0) (core core' : Slots) (c : ℕ) (piece : List ℕ) (s s' : Listening) (m o : ℕ) (talk talk' : Option Talk)
+pub piece_came : (Told : Corpus → Type 0) (core core' : Lefts) (c : ℕ) (piece : List ℕ) (s s' : Listening) (m o : ℕ) (talk talk' : Option Talk)
     → Heeds Told core core' c piece s s' m o talk talk' → KeepsCame talk talk'
 piece_came Told core core' c piece s s' m o talk talk' d = let w = after_piece Told c d.old piece d.kept m o talk talk' d.received in
     came_spoke c w.1.more w.0 talk talk' w.1.spoke
 
-pub opened_came : (core core' : Slots) (c : ℕ) (s s' : Listening) (talk talk' : Option Talk) → Greets core core' c s s' talk talk' → KeepsCame talk talk'
+pub opened_came : (core core' : Lefts) (c : ℕ) (s s' : Listening) (talk talk' : Option Talk) → Greets core core' c s s' talk talk' → KeepsCame talk talk'
 opened_came core core' c s s' talk talk' greets = let g = greeted core core' c s s' talk talk' greets in came_spoke c g.1.more g.1.fails talk talk' g.1.spoke

@@ -2,7 +2,7 @@
 --
 --   starts        before anything was opened the core of no slots follows it
 --   served_none   nothing was served then, and no count rose
---   served_same   what was served, by other names of the counts
+--   right_same    what a step keeps, by other names of the counts
 --   IsGoodOver        an engine over bytes that stand for its index, where what it keeps is good, with their corpus
 --   over_same     it is so by other names of the bytes and the engine
 --   good_after    what is kept of answers is good after it was answered from
@@ -11,6 +11,7 @@ use Rattle.std.specs.Prelude.{Option, Some, min}
 use Rattle.std.specs.Ordering.{nat_cmp}
 use Rattle.std.specs.FinSet as set
 use Rattle.std.proofs.lemmas.Option.{same_Some}
+use Rattle.cs_base.specs.declared.outside.hub.Event.{Event}
 use Rattle.cs_base.specs.outside.Hub.{Talk, Listening, IsOrderly, listens}
 use Rattle.cs_engine.specs.Keeping.{AreGood, EngineView}
 use Rattle.cs_file.specs.Indexes.{StandsFor}
@@ -18,7 +19,7 @@ use Rattle.cs_model.specs.Corpus.{Corpus}
 use Rattle.cs_model_index.specs.Sections.{file_corpus}
 use Rattle.cs_model_serving.specs.Connections.{reads}
 use Rattle.cs_hub.specs.Streams.{sum_below}
-use Rattle.cs_hub.specs.HubFollowing.{Follows, AreServed}
+use Rattle.cs_hub.specs.HubFollowing.{Follows, AreServed, Lefts, StaysRight}
 
 pub starts : (k : Corpus) (s : Listening) (talk : Option Talk) (port conns : ℕ) → s ≡ listens port conns → IsOrderly s talk → Follows k [] s talk 0
 starts k s talk port conns e o = record {
@@ -36,8 +37,10 @@ served_none k s talk port conns n e o =
     record { core = []; failed = 0; follows = starts k s talk port conns e o; rose = let l : min (n + 0) (2 ^ 64 - 1) ≤ n = omega arith in l }
 
 -- by other names of the counts
-pub served_same : (k : Corpus) (s : Listening) (talk : Option Talk) (m m' n n' : ℕ) → m ≡ m' → n ≡ n' → AreServed k s talk m n → AreServed k s talk m' n'
-served_same k s talk m m' n n' e f h = subst (λ x. AreServed k s talk x n') e (subst (λ x. AreServed k s talk m x) f h)
+pub right_same : (k : Corpus) (core core' : Lefts) (event : Event) (piece : List ℕ) (s s' : Listening) (talk talk' : Option Talk) (m m' n n' : ℕ) → m ≡ m'
+    → n ≡ n' → StaysRight k core core' event piece s s' talk talk' m n → StaysRight k core core' event piece s s' talk talk' m' n'
+right_same k core core' event piece s s' talk talk' m m' n n' e f h =
+    subst (λ x. StaysRight k core core' event piece s s' talk talk' x n') e (subst (λ x. StaysRight k core core' event piece s s' talk talk' m x) f h)
 
 abbrev pub IsGoodOver : Option (List ℕ) → EngineView → Corpus → Type 0
 IsGoodOver told e k = (x : List ℕ) × (told ≡ Some x) × StandsFor x e.index × AreGood x e × (k ≡ file_corpus x)

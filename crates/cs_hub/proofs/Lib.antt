@@ -11,6 +11,7 @@ pub mod RightLemmas
 pub mod RoundLemmas
 pub mod ServedLemmas
 pub mod SpeakLemmas
+pub mod TotalLemmas
 pub mod TurnLemmas
 pub mod UnreadBytes
 pub mod UnreadHeads

@@ -3,6 +3,7 @@
 --   along_start, along_next, along_hold, along_stop    the way through the bytes
 --   calm_none, calm_both                               what the hub keeps
 --   stays_none, stays_both                             what is kept of what answers requests
+--   leaves_none, leaves_both                           what is kept of an engine and its store
 --   received, goes_kept                                a piece, by what is kept of the connection
 use Rattle.std.proofs.Common.{◌≡◌, inl, inr, ℕ, ◌+◌, ◌-◌, Bool, true, false, List, [], ◌∷◌, ◌++◌, length, take, drop, refl, sym, ◌∙◌, ap, subst}
 use Rattle.std.proofs.Common.{append_assoc, append-nil, arith}
@@ -17,7 +18,9 @@ use Rattle.cs_model_serving.specs.Responses.{Response, response_bytes, all_bytes
 use Rattle.cs_model_serving.specs.Connections.{Served, Left, MayReplace, serve, waits, answers_on}
 use Rattle.cs_model_serving.specs.ServingLaws.{answers_before}
 use Rattle.cs_model_serving.proofs.ServeLemmas.{serve-more}
-use Rattle.cs_hub.specs.Asked.{StaysAnswering}
+use Rattle.cs_engine.specs.Keeping.{EngineView}
+use Rattle.cs_hub.specs.Asked.{LeavesIndex, StaysAnswering}
+use Rattle.cs_hub.specs.DueReads.{IsRest}
 use Rattle.cs_hub.specs.Speaking.{Calm, IsEnded}
 use Rattle.cs_hub.specs.Turns.{IsOne, IsAlong, Along, GoesOn, KeepsBelow, Kept, HoldsOn, Holds, Reads, Stops, Received}
 use Rattle.cs_hub.proofs.SpeakLemmas.{breaks_both, breaks_none, rose_none, spoke_nothing, says_both}
@@ -125,6 +128,19 @@ pub stays_both : {A L : Type 0} {over : A → Corpus → Type 0} {lends : A → 
     → StaysAnswering over lends fails y z → StaysAnswering over lends fails x z
 stays_both h k = record { still = λ c o. k.still c (h.still c o); lent = k.lent ∙ h.lent; later = omega (arith, h.later, k.later) }
 
+pub leaves_none : {S L : Type 0} {tells : S → Option (List ℕ)} {lends : S → L} {fails : S → ℕ} (e : EngineView) (x : S) → LeavesIndex tells lends fails e e x x
+leaves_none e x = record { index = refl; capacity = refl; bytes = refl; lent = refl; later = omega arith }
+
+pub leaves_both : {S L : Type 0} {tells : S → Option (List ℕ)} {lends : S → L} {fails : S → ℕ} {d e f : EngineView} {x y z : S}
+    → LeavesIndex tells lends fails d e x y → LeavesIndex tells lends fails e f y z → LeavesIndex tells lends fails d f x z
+leaves_both h k = record {
+  index = k.index ∙ h.index;
+  capacity = k.capacity ∙ h.capacity;
+  bytes = k.bytes ∙ h.bytes;
+  lent = k.lent ∙ h.lent;
+  later = omega (arith, h.later, k.later);
+}
+
 -- ---- the limit
 -- by what is kept of the connection
 received_from : (Over : Corpus → Type 0) (c taken : ℕ) (unread piece counted unread' : List ℕ) (goes : Bool) (kept : Option Left) (m n : ℕ)
@@ -132,13 +148,15 @@ received_from : (Over : Corpus → Type 0) (c taken : ℕ) (unread piece counted
     → Reads Over c (unread ++ counted) goes unread' m n talk talk' → Received Over c (record { taken = taken; unread = unread }) piece kept m n talk talk'
 received_from Over c taken unread piece counted unread' true (Some l) m n talk talk' e k h = (
   subst (λ u. Holds Over c (unread ++ take (MAX_CONNECTION_BYTES - taken) piece) u m n talk talk') (sym (ap (λ (x : Left). x.unread) k.2))
-      (subst (λ x. Holds Over c (unread ++ x) unread' m n talk talk') e h),
+      (subst (λ x. Holds Over c (unread ++ x) unread' m n talk talk') e h.0),
   let size = length-take (MAX_CONNECTION_BYTES - taken) piece in omega (arith, k.1, ap length e, ap (λ (x : Left). x.taken) k.2, size),
   omega (arith, k.1, ap (λ (x : Left). x.taken) k.2),
+  subst (λ u. IsRest (unread ++ take (MAX_CONNECTION_BYTES - taken) piece) u) (sym (ap (λ (x : Left). x.unread) k.2))
+      (subst (λ x. IsRest (unread ++ x) unread') e h.1),
 )
 received_from Over c taken unread piece counted unread' true None m n talk talk' e k h = inr (
   unread',
-  subst (λ x. Holds Over c (unread ++ x) unread' m n talk talk') e h,
+  subst (λ x. Holds Over c (unread ++ x) unread' m n talk talk') e h.0,
   let size = length-take (MAX_CONNECTION_BYTES - taken) piece in let full = k refl in omega (arith, full, ap length e, size),
 )
 received_from Over c taken unread piece counted unread' false (Some l) m n talk talk' e k h = absurd (let x : false ≡ true = k.0 in cc)

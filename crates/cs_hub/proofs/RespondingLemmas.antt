@@ -21,7 +21,7 @@ use Rattle.cs_model_serving.specs.Connections.{says_read, says_changed, reads, c
 use Rattle.cs_model_serving.proofs.CountLemmas.{answer_counts}
 use Rattle.cs_query.specs.declared.request.ReqFault.{ReqFault}
 use Rattle.cs_hub.specs.DueReads.{Answered, IsBy, IsResponseBy, closes_behind}
-use Rattle.cs_hub.specs.Responding.{IsJudgedSo, IsRefusedSo, replied}
+use Rattle.cs_hub.specs.Responding.{IsJudgedSo, IsRefusedSo, reply_response}
 use Rattle.cs_hub.specs.Streams.{RoseBy}
 use Rattle.cs_hub.specs.Turns.{IsFor, IsGiven}
 use Rattle.cs_hub.proofs.ByLemmas.{by_same}
@@ -64,12 +64,12 @@ given_refused Over p fault close r m cause h = λ k over.
 
 -- where the parameters aren't refused, the response is that to their request
 pub given_params : (k : Corpus) (p : List ℕ) (q : Request) (close : Bool) → request_refusal p ≡ None → q ≡ request_of p
-    → replied k q close ≡ to_params k p close
+    → reply_response k q close ≡ to_params k p close
 given_params k p q close none e =
-    ap (λ q. replied k q close) e ∙ sym (ap (λ r. let y : Response = record { status = status_by r; closes = close; body = text_by k p r } in y) none)
+    ap (λ q. reply_response k q close) e ∙ sym (ap (λ r. let y : Response = record { status = status_by r; closes = close; body = text_by k p r } in y) none)
 
 pub given_asked : (Over : Corpus → Type 0) (p : List ℕ) (q : Request) (close : Bool) (r : Response) (m n : ℕ) → request_refusal p ≡ None → q ≡ request_of p
-    → IsGiven Over (λ k. replied k q close) r m n → IsGiven Over (λ k. to_params k p close) r m n
+    → IsGiven Over (λ k. reply_response k q close) r m n → IsGiven Over (λ k. to_params k p close) r m n
 given_asked Over p q close r m n none e h = λ k over. subst (λ x. IsFor x r m n) (given_params k p q close none e) (h k over)
 
 -- ---- heads

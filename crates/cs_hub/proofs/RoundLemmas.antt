@@ -20,7 +20,7 @@ use Rattle.cs_base.specs.outside.Hub.{Came, Talk, Listening, IsOrderly, Happens,
 use Rattle.cs_model.specs.Corpus.{Corpus}
 use Rattle.cs_model_serving.specs.Connections.{Left}
 use Rattle.cs_hub.specs.Streams.{RoseBy}
-use Rattle.cs_hub.specs.HubFollowing.{Slots, left_at, HasLive, HasLiveBut, Follows, AreServed}
+use Rattle.cs_hub.specs.HubFollowing.{Lefts, left_at, HasLive, HasLiveBut, Follows, AreServed}
 use Rattle.cs_hub.specs.declared.rounds.Round.TheVariants.{Goes}
 use Rattle.cs_hub.specs.Rounds.{KeepsCame, StaysBeside, StaysServed, Went, came_by, still, weight}
 use Rattle.cs_hub.proofs.SpeakLemmas.{breaks_both, breaks_none, itself, in_after, rose_both, rose_none}
@@ -36,7 +36,7 @@ nothing None h = refl
 nothing (Some l) h = absurd cc
 
 -- before its step the core's connections are the live ones but for the event's own
-pub before_step : (core : Slots) (s s' : Listening) (talk : Option Talk) (room : ℕ) (e : Event) → HasLive core s → IsOrderly s talk → Happens s room e s'
+pub before_step : (core : Lefts) (s s' : Listening) (talk : Option Talk) (room : ℕ) (e : Event) → HasLive core s → IsOrderly s talk → Happens s room e s'
     → HasLiveBut core s' e
 before_step core s s' talk room (Opened c) h o p =
     let closed : set.contains s.live c ≡ false = not_live (set.contains s.live c) (λ live. absurd (omega (arith, o.live c live, p.1))) in
@@ -69,46 +69,46 @@ came_one e talk mid talk' h k = let a = came_after e talk mid h in let b = came_
 
 -- ---- what is served
 -- so far, with what the core keeps
-pub record ServedBy (k : Corpus) (core : Slots) (s : Listening) (talk : Option Talk) (before now : ℕ) : Type 0 where
+pub record ServedBy (k : Corpus) (core : Lefts) (s : Listening) (talk : Option Talk) (before now : ℕ) : Type 0 where
   pub failed : ℕ
   pub follows : Follows k core s talk failed
   pub rose : RoseBy failed before now
 
-pub goes_on : (k : Corpus) (core core' : Slots) (s s' : Listening) (talk talk' : Option Talk) (m n o : ℕ) → ServedBy k core s talk m n
+pub goes_on : (k : Corpus) (core core' : Lefts) (s s' : Listening) (talk talk' : Option Talk) (m n o : ℕ) → ServedBy k core s talk m n
     → StaysServed k core core' s s' talk talk' n o → ServedBy k core' s' talk' m o
 goes_on k core core' s s' talk talk' m n o h f =
     let x = f h.failed h.follows in
     record { failed = h.failed + x.0; follows = x.1; rose = rose_both h.failed x.0 m n o h.rose x.2 }
 
-pub served_by : (k : Corpus) (core : Slots) (s : Listening) (talk : Option Talk) (m n : ℕ) → ServedBy k core s talk m n → AreServed k s talk m n
+pub served_by : (k : Corpus) (core : Lefts) (s : Listening) (talk : Option Talk) (m n : ℕ) → ServedBy k core s talk m n → AreServed k s talk m n
 served_by k core s talk m n h = record { core = core; failed = h.failed; follows = h.follows; rose = h.rose }
 
 -- ---- the end
-pub none_live : (core : Slots) (s : Listening) → HasLive core s → ((d : ℕ) → left_at core d ≡ None) → (d : ℕ) → set.contains s.live d ≡ false
+pub none_live : (core : Lefts) (s : Listening) → HasLive core s → ((d : ℕ) → left_at core d ≡ None) → (d : ℕ) → set.contains s.live d ≡ false
 none_live core s h none = λ d. sym (h d) ∙ ap is_some (none d)
 
 -- ---- the start
-pub at_start : (k : Corpus) (core : Slots) (s : Listening) (talk : Option Talk) (port conns m : ℕ) → core ≡ [] → s ≡ listens port conns → IsOrderly s talk
+pub at_start : (k : Corpus) (core : Lefts) (s : Listening) (talk : Option Talk) (port conns m : ℕ) → core ≡ [] → s ≡ listens port conns → IsOrderly s talk
     → ServedBy k core s talk m m
 at_start k core s talk port conns m none e o =
     subst (λ x. ServedBy k x s talk m m) (sym none) (record { failed = 0; follows = starts k s talk port conns e o; rose = rose_none m m (omega arith) })
 
-start_live : (core : Slots) (s : Listening) (port conns : ℕ) → core ≡ [] → s ≡ listens port conns → HasLive core s
+start_live : (core : Lefts) (s : Listening) (port conns : ℕ) → core ≡ [] → s ≡ listens port conns → HasLive core s
 start_live core s port conns none e =
     subst (λ x. HasLive x s) (sym none) (λ d. sym (ap (λ (y : Listening). set.contains y.live d) e ∙ set.contains-empty nat_cmp d))
 
-start_still : (core : Slots) (conns : ℕ) → core ≡ [] → still conns 0 core ≡ conns * (MAX_CONNECTION_BYTES + 2)
+start_still : (core : Lefts) (conns : ℕ) → core ≡ [] → still conns 0 core ≡ conns * (MAX_CONNECTION_BYTES + 2)
 start_still core conns none = let w = ap weight none in omega (arith, w)
 
 -- less is left to come, by the numbers that the loop keeps
-less_left : (conns opened count room was : ℕ) (core core' : Slots) → room ≡ conns → was ≡ opened → still room count core' < still room was core
+less_left : (conns opened count room was : ℕ) (core core' : Lefts) → room ≡ conns → was ≡ opened → still room count core' < still room was core
     → still conns count core' < still conns opened core
 less_left conns opened count room was core core' e f h =
     subst (λ i. still i count core' < still i opened core) e (subst (λ i. still room count core' < still room i core) f h)
 
 -- ---- the core beside the hub
 module _ {H : Type 0} {stands : H → Listening} {tells : H → Option Talk} where
-  pub beside_start : {send_fails : H → ℕ} {conns : ℕ} (core : Slots) (port : ℕ) (x : H) → core ≡ [] → stands x ≡ listens port conns
+  pub beside_start : {send_fails : H → ℕ} {conns : ℕ} (core : Lefts) (port : ℕ) (x : H) → core ≡ [] → stands x ≡ listens port conns
       → IsOrderly (stands x) (tells x) → StaysBeside stands tells send_fails conns core x x
   beside_start {send_fails} {conns} core port x none is orderly = record {
     live = start_live core (stands x) port conns none is;
@@ -118,7 +118,7 @@ module _ {H : Type 0} {stands : H → Listening} {tells : H → Option Talk} whe
     breaks = breaks_none (send_fails x) (tells x);
   }
 
-  pub beside_both : {send_fails : H → ℕ} {conns : ℕ} {core core' : Slots} {x y z : H} → StaysBeside stands tells send_fails conns core x y
+  pub beside_both : {send_fails : H → ℕ} {conns : ℕ} {core core' : Lefts} {x y z : H} → StaysBeside stands tells send_fails conns core x y
       → StaysBeside stands tells send_fails conns core' y z → StaysBeside stands tells send_fails conns core' x z
   beside_both {send_fails} {x = x} {y = y} {z = z} h k = record {
     live = k.live;
@@ -130,7 +130,7 @@ module _ {H : Type 0} {stands : H → Listening} {tells : H → Option Talk} whe
 
 -- ---- rounds so far
 -- so many connections were opened, no more than there is room for; neither Over nor a failure came, and there were so few events
-pub record CountsRounds {H : Type 0} (stands : H → Listening) (tells : H → Option Talk) (fails : H → ℕ) (conns count : ℕ) (core : Slots)
+pub record CountsRounds {H : Type 0} (stands : H → Listening) (tells : H → Option Talk) (fails : H → ℕ) (conns count : ℕ) (core : Lefts)
     (old now : H) : Type 0 where
   pub opened : (stands now).opened ≡ count
   pub most : count ≤ conns
@@ -139,7 +139,7 @@ pub record CountsRounds {H : Type 0} (stands : H → Listening) (tells : H → O
   pub events : came_by (tells now) + still conns count core ≤ came_by (tells old) + conns * (MAX_CONNECTION_BYTES + 2)
 
 module _ {H : Type 0} {stands : H → Listening} {tells : H → Option Talk} {fails : H → ℕ} {conns : ℕ} where
-  pub counts_start : (core : Slots) (port : ℕ) (x : H) → core ≡ [] → stands x ≡ listens port conns → CountsRounds stands tells fails conns 0 core x x
+  pub counts_start : (core : Lefts) (port : ℕ) (x : H) → core ≡ [] → stands x ≡ listens port conns → CountsRounds stands tells fails conns 0 core x x
   counts_start core port x none is = record {
     opened = ap (λ (y : Listening). y.opened) is;
     most = omega arith;
@@ -148,7 +148,7 @@ module _ {H : Type 0} {stands : H → Listening} {tells : H → Option Talk} {fa
     events = let z = start_still core conns none in omega (arith, z);
   }
 
-  pub counts_next : {opened n : ℕ} {core core' : Slots} {x : H} (y z : H) → CountsRounds stands tells fails conns opened core x y → (stands y).conns ≡ conns
+  pub counts_next : {opened n : ℕ} {core core' : Lefts} {x : H} (y z : H) → CountsRounds stands tells fails conns opened core x y → (stands y).conns ≡ conns
       → Went (Goes n) (stands y) (stands z) (tells y) (tells z) (fails y) (fails z) core core' → CountsRounds stands tells fails conns n core' x z
   counts_next {opened} {n} {core} {core'} y z h room went = record {
     opened = went.0;

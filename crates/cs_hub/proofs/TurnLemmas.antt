@@ -32,7 +32,7 @@ use Rattle.cs_hub.specs.declared.reading.Turn.TheVariants.{Next, Holds, Stops as
 use Rattle.cs_hub.specs.declared.answer.Answer.{Answer}
 use Rattle.cs_hub.specs.Responding.{response}
 use Rattle.cs_hub.specs.Streams.{RoseBy}
-use Rattle.cs_hub.specs.Speaking.{Said, Spoke, Starved, IsCutShort, IsEnded, Says}
+use Rattle.cs_hub.specs.Speaking.{SaidOn, Spoke, Starved, IsCutShort, IsEnded, Says}
 use Rattle.cs_hub.specs.Turns.{IsGiven, Delivered, IsSent, Replied, IsOne, HoldsBytes, IsTurnedAway, Stops, Turned}
 use Rattle.cs_hub.proofs.SpeakLemmas.{rose_none}
 use Rattle.cs_hub.proofs.ServedLemmas.{all_nil, zip_same, same_closing, plain, reads_cons, changes_cons}
@@ -41,7 +41,7 @@ use Rattle.cs_hub.proofs.ServedLemmas.{all_nil, zip_same, same_closing, plain, r
 cut_none : (rs : List Response) → IsCutShort rs memory_bytes []
 cut_none rs = record { first = []; later = rs; cut = refl; each = tt; going = all_nil (λ r. r.closes ≡ false); bytes = refl }
 
-starves_by : (Over : Corpus → Type 0) (c : ℕ) (b : List ℕ) (whole : Bool) (m n : ℕ) (talk talk' : Option Talk) → m ≤ n → Said c memory_bytes whole talk talk'
+starves_by : (Over : Corpus → Type 0) (c : ℕ) (b : List ℕ) (whole : Bool) (m n : ℕ) (talk talk' : Option Talk) → m ≤ n → SaidOn c memory_bytes whole talk talk'
     → Stops Over c b m n talk talk'
 starves_by Over c b true m n talk talk' later said = (
   false,
@@ -168,7 +168,7 @@ closes_so c r true talk talk' is h = inl (is, h)
 closes_so c r false talk talk' is h = (is, h)
 
 -- a response goes on where it was sent whole and doesn't close the connection
-pub delivered_by : (c : ℕ) (r : Response) (text : List ℕ) (whole : Bool) (talk talk' : Option Talk) → text ≡ response_bytes r → Said c text whole talk talk'
+pub delivered_by : (c : ℕ) (r : Response) (text : List ℕ) (whole : Bool) (talk talk' : Option Talk) → text ≡ response_bytes r → SaidOn c text whole talk talk'
     → Delivered c r (whole && not r.closes) talk talk'
 delivered_by c r text true talk talk' is h = closes_so c r r.closes talk talk' refl (subst (λ t. Spoke c t false talk talk') is h)
 delivered_by c r text false talk talk' is h = inr (inl (h.0, subst (λ t. Spoke c (take h.0 t) true talk talk') is h.1))

@@ -3,9 +3,11 @@
 --   heads-framed      the heads are those that framing finds, one behind the other
 --   heads-served      what is served of bytes is the responses to these heads, and maybe that to a head that is too long
 --   heads-more, heads-long, heads-head, heads-goes_on, heads-closes    the heads, by what framing found
+--   heads-goes_behind   the heads of bytes with any behind them
 --   requests-none     no bytes ask nothing
 use Rattle.std.proofs.Common.{◌≡◌, ◌⊎◌, inl, inr, ℕ, suc, ◌<◌, ◌≤◌, Bool, true, false, cond, List, [], ◌∷◌, ◌++◌, map, length, drop, slice_range, refl, sym}
-use Rattle.std.proofs.Common.{◌∙◌, ap, subst, arith, length-drop}
+use Rattle.std.proofs.Common.{◌∙◌, ◌-◌, ap, ap₂, subst, take, arith, length-drop}
+use Rattle.std.proofs.lemmas.List.{take-append-le, drop-append-le}
 use Prim.Native.Nat.{zero}
 use Rattle.cs_model.specs.Corpus.{Corpus}
 use Rattle.cs_model_serving.specs.declared.framed.Framed.{Framed}
@@ -14,7 +16,7 @@ use Rattle.cs_model_serving.specs.Connections.{Served, answered, answered_by, se
 use Rattle.cs_model_serving.specs.Framing.{frame}
 use Rattle.cs_model_serving.specs.Heads.{Judgement, refused, asks, judge}
 use Rattle.cs_model_serving.specs.Responses.{Response, response_to, to_judgement, too_long}
-use Rattle.cs_model_serving.proofs.FrameLemmas.{frame-nil, frame-within}
+use Rattle.cs_model_serving.proofs.FrameLemmas.{frame-head, frame-nil, frame-within}
 use Rattle.cs_hub.specs.DueReads.{closes_behind, heads_among, heads_framed, heads_on, requests_on, requests_to}
 
 -- ---- the number of heads
@@ -74,6 +76,17 @@ heads-by b skip end closes h is =
 pub heads-goes_on : (b : List ℕ) (skip end : ℕ) → frame b ≡ Head skip end → closes_behind (judge (slice_range b skip end)) ≡ false
     → heads_on b ≡ slice_range b skip end ∷ heads_on (drop end b)
 heads-goes_on b skip end h is = heads-by b skip end false h is
+
+-- with any bytes behind
+pub heads-goes_behind : (b more : List ℕ) (skip end : ℕ) → frame b ≡ Head skip end → closes_behind (judge (slice_range b skip end)) ≡ false
+    → heads_on (b ++ more) ≡ slice_range b skip end ∷ heads_on (drop end b ++ more)
+heads-goes_behind b more skip end h is =
+    let w = (frame-within b skip end h).0 in
+    let range : slice_range (b ++ more) skip end ≡ slice_range b skip end =
+    ap (take (end - skip)) (drop-append-le skip b more (omega (arith, w.text, w.within)))
+    ∙ take-append-le (end - skip) (drop skip b) more (omega (arith, w.text, w.within, length-drop skip b)) in
+    heads-goes_on (b ++ more) skip end (frame-head b more skip end h) (subst (λ x. closes_behind (judge x) ≡ false) (sym range) is)
+    ∙ ap₂ (λ x rest. x ∷ heads_on rest) range (drop-append-le end b more w.within)
 
 pub heads-closes : (b : List ℕ) (skip end : ℕ) → frame b ≡ Head skip end → closes_behind (judge (slice_range b skip end)) ≡ true
     → heads_on b ≡ slice_range b skip end ∷ []

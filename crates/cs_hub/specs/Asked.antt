@@ -49,11 +49,11 @@ pub record AsksAsSent {K : Type 0} (Leaves : K → Request → Result Reply Fetc
   pub asks : AsksOf Leaves whole qs s t
   pub sent : Sent asks.answered
 
--- the heads of the bytes that are left come behind these, and only whole responses were sent, one to each head
+-- the heads of the bytes that are left, with any behind them, come behind these, and only whole responses were sent, one to each head
 pub record AsksAlong {K : Type 0} (Leaves : K → Request → Result Reply FetchFault → K → Type 0) (c : ℕ) (b left : List ℕ) (s t : K)
     (talk talk' : Option Talk) : Type 0 where
   pub heads : List (List ℕ)
-  pub cut : heads_on b ≡ heads ++ heads_on left
+  pub cut : (more : List ℕ) → heads_on (b ++ more) ≡ heads ++ heads_on (left ++ more)
   pub answered : List Answered
   pub asked : requests_to heads ≡ requests_of answered
   pub in_turn : InTurn Leaves answered s t
@@ -78,7 +78,7 @@ pub record SentFor (c : ℕ) (goes : Bool) (h : List ℕ) (talk talk' : Option T
 abbrev pub AsksBy : {K : Type 0} → (K → Request → Result Reply FetchFault → K → Type 0) → ℕ → List ℕ → List ℕ → Turn → K → K → Option Talk → Option Talk → Type 0
 AsksBy Leaves c unread rest (turns.Next used) s t talk talk' = AsksAlong Leaves c (unread ++ rest) (drop used rest) s t talk talk'
 AsksBy Leaves c unread rest turns.Holds s t talk talk' = (heads_on (unread ++ rest) ≡ []) × (t ≡ s) × (talk' ≡ talk)
-AsksBy Leaves c unread rest turns.Stops s t talk talk' = AsksAsSent Leaves false (requests_on (unread ++ rest)) s t (SentBefore c (unread ++ rest) talk talk')
+AsksBy Leaves c unread rest turns.Stops s t talk talk' = AsksAsSent Leaves false (requests_on (unread ++ rest)) s t (SentBefore c false (unread ++ rest) talk talk')
 
 -- it answers over each corpus that it answered over, what is lent to it stays, and its count of failures doesn't fall
 pub record StaysAnswering {A L : Type 0} (over : A → Corpus → Type 0) (lends : A → L) (fails : A → ℕ) (old now : A) : Type 0 where

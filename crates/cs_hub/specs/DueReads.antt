@@ -11,6 +11,7 @@
 --   heads_on b              the heads of unread bytes, up to the first after which the connection is closed; of no bytes none
 --   requests_to hs          the requests of some heads
 --   requests_on b           those of the heads of unread bytes
+--   IsRest b u              whatever bytes come behind b, their heads are those of b and then those behind the bytes u
 --   bytes_behind l piece    the bytes that a piece leaves to be answered on a connection of which l is kept
 --   bytes_to_answer core e piece    those that an event leaves; none where it is no piece
 --   goes_on core e          the connection of a piece is kept; so it is said of each event that is no piece
@@ -25,12 +26,14 @@
 --   IsPartOf text part      some first bytes of a text
 --   IsTextBy hs xs part     some first bytes of the response to the first of some heads by these answers, or of that of memory
 --   AreResponsesBy rs hs xs     the responses to heads, head by head, by the answers to what they ask
+--   IsWholeBy               such responses, nothing behind them, and no send failed
 --   SentBy rs hs xs part    such responses to some first heads, and behind them some first bytes of the next one
 --   IsDue told a e n e'     n reads are due for a request of the engine e with this answer, which leaves the engine e'
 --   AreDue told xs e n e'   the same of requests that are asked one after the other
 --   HasMemory xs            none of the answers is want of memory
---   SentBefore c b xs       behind a response that wasn't sent whole on the connection c nothing was asked of the bytes b
---   SentAt event b xs       the same where the event is a piece
+--   SentBefore c goes b xs  behind a response that wasn't sent whole on the connection c nothing was asked of the bytes b; where it
+--                           goes on each head has its response
+--   SentAt event goes b xs  the same where the event is a piece
 --   AnswersWithin           some first requests were answered, and no more was read than is due for them
 use Rattle.std.specs.Prelude.{◌≡◌, ◌⊎◌, ℕ, suc, ◌+◌, ◌-◌, ◌≤◌, Bool, true, false, cond, List, [], ◌∷◌, ◌++◌, map, length, take, drop, slice_range, All, Option}
 use Rattle.std.specs.Prelude.{Some, None, is_some, Result, Ok, Err, IfOk, IfErr}
@@ -61,7 +64,7 @@ use Rattle.cs_engine.specs.declared.note.Note.{Note}
 use Rattle.cs_engine.specs.Asking.{IsChangeIn, division, titles_asked}
 use Rattle.cs_file.specs.CallAnswers.{is_changed, is_read}
 use Rattle.cs_engine.specs.Keeping.{AreGood, EngineView, IsAfter, KeepsAnswers, note_plan}
-use Rattle.cs_hub.specs.HubFollowing.{Slots, left_at}
+use Rattle.cs_hub.specs.HubFollowing.{Lefts, left_at}
 use Rattle.cs_hub.specs.Speaking.{Spoke}
 use Rattle.cs_hub.specs.Streams.{RoseBy}
 
@@ -104,6 +107,10 @@ requests_to hs = flat_map (λ h. requests_in (judge h)) hs
 abbrev pub requests_on : List ℕ → List Request
 requests_on b = requests_to (heads_on b)
 
+-- u are the bytes behind the last head of b: no head begins before them that ends in bytes behind b
+abbrev pub IsRest : List ℕ → List ℕ → Type 0
+IsRest b u = (more : List ℕ) → heads_on (b ++ more) ≡ heads_on b ++ heads_on (u ++ more)
+
 -- ---- events
 -- the bytes that weren't read, and behind them those of the piece that count; none on a connection that isn't kept
 abbrev pub bytes_behind : Option Left → List ℕ → List ℕ
@@ -111,14 +118,14 @@ bytes_behind None piece = []
 bytes_behind (Some l) piece = l.unread ++ take (MAX_CONNECTION_BYTES - l.taken) piece
 
 -- an event that is no piece leaves none
-abbrev pub bytes_to_answer : Slots → Event → List ℕ → List ℕ
+abbrev pub bytes_to_answer : Lefts → Event → List ℕ → List ℕ
 bytes_to_answer core (Opened c) piece = []
 bytes_to_answer core (Piece c n) piece = bytes_behind (left_at core c) piece
 bytes_to_answer core (Ended c) piece = []
 bytes_to_answer core Over piece = []
 
 -- something is kept of the connection of a piece; of other events it is said in any case
-abbrev pub goes_on : Slots → Event → Bool
+abbrev pub goes_on : Lefts → Event → Bool
 goes_on core (Opened c) = true
 goes_on core (Piece c n) = is_some (left_at core c)
 goes_on core (Ended c) = true
@@ -219,11 +226,16 @@ SentBy (r ∷ rs) [] xs part = ⊥
 SentBy (r ∷ rs) (h ∷ hs) xs part =
     (ys : List Answered) × (zs : List Answered) × (xs ≡ ys ++ zs) × IsResponseBy h ys r × SentBy rs hs zs part
 
+-- one response to each head by the answers, nothing behind them, and no send failed
+abbrev pub IsWholeBy : List Response → List (List ℕ) → List Answered → List ℕ → Bool → Type 0
+IsWholeBy rs hs xs part fails = AreResponsesBy rs hs xs × (part ≡ []) × (fails ≡ false)
+
 -- on the connection whole responses were sent, to the first heads of the bytes, and perhaps bytes behind them. Each is by the answers
 -- to what its head asks, whatever the store tells. No more was answered
 -- than these heads and the next one ask: so behind a response that wasn't sent whole nothing was. All that the heads ask was
--- answered, and no answer is want of memory, unless a send failed or the memory response came last
-pub record SentBefore (c : ℕ) (b : List ℕ) (talk talk' : Option Talk) (answered : List Answered) : Type 0 where
+-- answered, and no answer is want of memory, unless a send failed or the memory response came last. Where the connection goes on,
+-- one whole response was sent to each head, and nothing behind them
+pub record SentBefore (c : ℕ) (goes : Bool) (b : List ℕ) (talk talk' : Option Talk) (answered : List Answered) : Type 0 where
   pub sent : List Response
   pub part : List ℕ
   pub fails : Bool
@@ -231,13 +243,14 @@ pub record SentBefore (c : ℕ) (b : List ℕ) (talk talk' : Option Talk) (answe
   pub by : SentBy sent (heads_on b) answered part
   pub enough : length answered ≤ length (requests_to (take (length sent + 1) (heads_on b)))
   pub all : (HasMemory answered × (length answered ≡ length (requests_on b))) ⊎ (fails ≡ true) ⊎ (part ≡ memory_bytes)
+  pub whole : goes ≡ true → IsWholeBy sent (heads_on b) answered part fails
 
 -- at an event that is no piece nothing is asked
-abbrev pub SentAt : Event → List ℕ → Option Talk → Option Talk → List Answered → Type 0
-SentAt (Opened c) b talk talk' answered = answered ≡ []
-SentAt (Piece c m) b talk talk' answered = SentBefore c b talk talk' answered
-SentAt (Ended c) b talk talk' answered = answered ≡ []
-SentAt Over b talk talk' answered = answered ≡ []
+abbrev pub SentAt : Event → Bool → List ℕ → Option Talk → Option Talk → List Answered → Type 0
+SentAt (Opened c) goes b talk talk' answered = answered ≡ []
+SentAt (Piece c m) goes b talk talk' answered = SentBefore c goes b talk talk' answered
+SentAt (Ended c) goes b talk talk' answered = answered ≡ []
+SentAt Over goes b talk talk' answered = answered ≡ []
 
 -- some first ones of these requests were answered, as many as were sent; where `whole` all of them and none met want of memory. No
 -- more was read than is due for them, and no more answers are failed reads than the count of failures rose by

@@ -2,7 +2,7 @@
 --
 -- Source: this engine's own.
 --
---   Slots                    what is kept of connections, each at its number; None where nothing is
+--   Lefts                    what is kept of connections, each at its number; None where nothing is
 --   left_at core c           that of connection c; None behind the last slot
 --   slots_of kept n          what a look-up by number has at the first n numbers
 --   AreBelow kept n          it has nothing at the others
@@ -32,15 +32,15 @@ use Rattle.cs_hub.specs.Streams.{bytes_that_came, ended_on, RoseBy, sum_below}
 
 -- ---- what is kept
 -- what is kept of each connection at its number; None of one that isn't live
-abbrev pub Slots : Type 0
-Slots = List (Option Left)
+abbrev pub Lefts : Type 0
+Lefts = List (Option Left)
 
 -- what is kept of a connection; None where there is no slot for it
-abbrev pub left_at : Slots → ℕ → Option Left
+abbrev pub left_at : Lefts → ℕ → Option Left
 left_at core c = slice_index_or core c None
 
 -- what a look-up by number has at the first n numbers, in their order
-abbrev pub slots_of : (ℕ → Option Left) → ℕ → Slots
+abbrev pub slots_of : (ℕ → Option Left) → ℕ → Lefts
 slots_of kept zero = []
 slots_of kept (suc n) = kept 0 ∷ slots_of (λ c. kept (suc c)) n
 
@@ -49,12 +49,12 @@ abbrev pub AreBelow : (ℕ → Option Left) → ℕ → Type 0
 AreBelow kept n = (c : ℕ) → is_some (kept c) ≡ true → c < n
 
 -- the live connections are those of which something is kept; of no slots there is none
-abbrev pub HasLive : Slots → Listening → Type 0
+abbrev pub HasLive : Lefts → Listening → Type 0
 HasLive core s = (d : ℕ) → is_some (left_at core d) ≡ set.contains s.live d
 
 -- before the step of an event: the connection that it opened is live and not kept, the one that it ended is kept and not live,
 -- and on the others the core has what is live
-abbrev pub HasLiveBut : Slots → Listening → Event → Type 0
+abbrev pub HasLiveBut : Lefts → Listening → Event → Type 0
 HasLiveBut core s (Opened c) = IsLive s c × (left_at core c ≡ None) × ((d : ℕ) → (d == c) ≡ false → is_some (left_at core d) ≡ set.contains s.live d)
 HasLiveBut core s (Piece c n) = IsLive s c × HasLive core s
 HasLiveBut core s (Ended c) =
@@ -90,7 +90,7 @@ pub record IsRight (k : Corpus) (b s : List ℕ) (broken ended : Bool) (left : O
 
 -- each opened connection is right by what came on it and what was sent, with some responses in the places of its answers; of
 -- all these responses at most n say Read
-pub record AreRight (k : Corpus) (core : Slots) (s : Listening) (t : Talk) (n : ℕ) : Type 0 where
+pub record AreRight (k : Corpus) (core : Lefts) (s : Listening) (t : Talk) (n : ℕ) : Type 0 where
   pub sent : ℕ → List Response
   pub right : (c : ℕ) → c < s.opened → IsRight k (bytes_that_came c t.came) (sent_on t c) (set.contains t.broken c) (ended_on c t.came || s.over)
       (left_at core c) (sent c)
@@ -98,21 +98,21 @@ pub record AreRight (k : Corpus) (core : Slots) (s : Listening) (t : Talk) (n : 
 
 -- the core follows a hub for the corpus: it keeps the live connections, and over a hub that tells its talk each opened one is
 -- right; before anything was opened the core of no slots follows it, with 0
-pub record Follows (k : Corpus) (core : Slots) (s : Listening) (talk : Option Talk) (n : ℕ) : Type 0 where
+pub record Follows (k : Corpus) (core : Lefts) (s : Listening) (talk : Option Talk) (n : ℕ) : Type 0 where
   pub live : HasLive core s
   pub orderly : IsOrderly s talk
   pub right : ForSome talk (λ t. AreRight k core s t n)
 
 -- a core follows the hub at the end, and no more responses say Read than the count of failures rose by
 pub record AreServed (k : Corpus) (s : Listening) (talk : Option Talk) (before now : ℕ) : Type 0 where
-  pub core : Slots
+  pub core : Lefts
   pub failed : ℕ
   pub follows : Follows k core s talk failed
   pub rose : RoseBy failed before now
 
 -- a step keeps this: where the core followed the hub before the event came, it follows it after the step, and the responses that
 -- the step sent say Read at most as often as the count of failures rose
-pub record StaysRight (k : Corpus) (core core' : Slots) (event : Event) (piece : List ℕ) (heard s' : Listening) (told talk' : Option Talk)
+pub record StaysRight (k : Corpus) (core core' : Lefts) (event : Event) (piece : List ℕ) (heard s' : Listening) (told talk' : Option Talk)
     (before now : ℕ) : Type 0 where
   pub stays : (s : Listening) (talk : Option Talk) (room n : ℕ) → Follows k core s talk n → Heard s talk room event piece heard told
       → (more : ℕ) × Follows k core' s' talk' (n + more) × RoseBy more before now
@@ -126,7 +126,7 @@ IsOther (Ended c) d = (d == c) ≡ false
 IsOther Over d = ⊥
 
 -- on a connection that isn't the event's, what is kept stays, it is live where it was, and nothing is sent
-pub record LeavesOthers (event : Event) (core core' : Slots) (s s' : Listening) (talk talk' : Option Talk) : Type 0 where
+pub record LeavesOthers (event : Event) (core core' : Lefts) (s s' : Listening) (talk talk' : Option Talk) : Type 0 where
   pub left : (d : ℕ) → IsOther event d → left_at core' d ≡ left_at core d
   pub live : (d : ℕ) → IsOther event d → set.contains s'.live d ≡ set.contains s.live d
   pub sent : ForSome talk (λ t. ForSome talk' (λ u. (d : ℕ) → IsOther event d → (sent_on u d ≡ sent_on t d)

@@ -6,4 +6,5 @@ pub mod Responding
 pub mod Rounds
 pub mod Speaking
 pub mod Streams
+pub mod Totals
 pub mod Turns

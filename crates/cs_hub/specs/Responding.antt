@@ -4,7 +4,7 @@
 --   response a             an answer of the code, as a response
 --   IsJudgedSo e r         r is the response to each judgement that the fault e of a head stands for
 --   IsRefusedSo e close r  r is the response to parameters that are refused with e, over each corpus
---   replied k q close      the response with the reply to a request
+--   reply_response k q close      the response with the reply to a request
 use Rattle.std.specs.Prelude.{◌≡◌, ℕ, Bool, List}
 use Rattle.cs_http.specs.declared.heads.HeadFault.{HeadFault}
 use Rattle.cs_http.specs.Judging.{IsHeadCause}
@@ -38,5 +38,5 @@ abbrev pub IsRefusedSo : ReqFault → Bool → Response → Type 0
 IsRefusedSo e close r = (k : Corpus) (p : List ℕ) → IsCause p e → r ≡ to_params k p close
 
 -- a 200 with the text of the reply, which may have no hits
-abbrev pub replied : Corpus → Request → Bool → Response
-replied k q close = record { status = 200; closes = close; body = reply_text (reply_of k q) }
+abbrev pub reply_response : Corpus → Request → Bool → Response
+reply_response k q close = record { status = 200; closes = close; body = reply_text (reply_of k q) }

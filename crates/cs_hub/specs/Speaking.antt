@@ -4,7 +4,7 @@
 --   Did c more fails t u     between these talks so much more was sent on connection c, a send on it failed or not, and on the
 --                            others nothing happened
 --   Spoke                    the same of talks that may not be told
---   Said c text whole        a text was sent on it, whole or cut off at some byte
+--   SaidOn c text whole        a text was sent on it, whole or cut off at some byte
 --   Starved c                the memory response was, whole or cut off
 --   BreaksBy before now      a connection broke only where the count of failed sends rose
 --   AreUnbroken t            no connection is broken
@@ -48,13 +48,13 @@ Spoke c more fails (Some t) None = ⊥
 Spoke c more fails (Some t) (Some u) = Did c more fails t u
 
 -- a text was sent whole; or some first bytes of it, all or none of them included, and the connection broke
-abbrev pub Said : ℕ → List ℕ → Bool → Option Talk → Option Talk → Type 0
-Said c text true talk talk' = Spoke c text false talk talk'
-Said c text false talk talk' = (count : ℕ) × Spoke c (take count text) true talk talk'
+abbrev pub SaidOn : ℕ → List ℕ → Bool → Option Talk → Option Talk → Type 0
+SaidOn c text true talk talk' = Spoke c text false talk talk'
+SaidOn c text false talk talk' = (count : ℕ) × Spoke c (take count text) true talk talk'
 
 -- the memory response was sent, whole or not
 abbrev pub Starved : ℕ → Option Talk → Option Talk → Type 0
-Starved c talk talk' = (whole : Bool) × Said c memory_bytes whole talk talk'
+Starved c talk talk' = (whole : Bool) × SaidOn c memory_bytes whole talk talk'
 
 -- the count of failed sends didn't fall, and where it didn't rise the same connections are broken, none more and none less, or that
 -- still isn't told

@@ -33,6 +33,7 @@ use Rattle.cs_hub.specs.declared.reading.Turn.{Turn}
 use Rattle.cs_hub.specs.declared.reading.Turn.TheVariants as turns
 use Rattle.cs_hub.specs.declared.answer.Answer.{Answer}
 use Rattle.cs_hub.specs.Responding.{response}
+use Rattle.cs_hub.specs.DueReads.{IsRest}
 use Rattle.cs_hub.specs.Streams.{RoseBy}
 use Rattle.cs_hub.specs.Speaking.{Spoke, Starved, IsServed, IsEnded, Says}
 
@@ -129,9 +130,9 @@ pub record HoldsOn (k : Corpus) (b unread' more : List ℕ) (sent : List Respons
 abbrev pub Holds : (Corpus → Type 0) → ℕ → List ℕ → List ℕ → ℕ → ℕ → Option Talk → Option Talk → Type 0
 Holds Over c b unread' before now talk talk' = Says Over c false (λ k more sent. HoldsOn k b unread' more sent) before now talk talk'
 
--- by whether the connection goes on
+-- by whether the connection goes on; where it does, the unread bytes are those behind the last head
 abbrev pub Reads : (Corpus → Type 0) → ℕ → List ℕ → Bool → List ℕ → ℕ → ℕ → Option Talk → Option Talk → Type 0
-Reads Over c b true unread' before now talk talk' = Holds Over c b unread' before now talk talk'
+Reads Over c b true unread' before now talk talk' = Holds Over c b unread' before now talk talk' × IsRest b unread'
 Reads Over c b false unread' before now talk talk' = Stops Over c b before now talk talk'
 
 -- these unread bytes where it goes on and fewer bytes were taken than count; otherwise nothing
@@ -144,7 +145,7 @@ KeepsBelow goes taken unread None = goes ≡ true → MAX_CONNECTION_BYTES ≤ t
 abbrev pub Received : (Corpus → Type 0) → ℕ → Left → List ℕ → Option Left → ℕ → ℕ → Option Talk → Option Talk → Type 0
 Received Over c old piece (Some l) before now talk talk' =
     Holds Over c (old.unread ++ take (MAX_CONNECTION_BYTES - old.taken) piece) l.unread before now talk talk' × (l.taken ≡ old.taken + length piece)
-    × (l.taken < MAX_CONNECTION_BYTES)
+    × (l.taken < MAX_CONNECTION_BYTES) × IsRest (old.unread ++ take (MAX_CONNECTION_BYTES - old.taken) piece) l.unread
 Received Over c old piece None before now talk talk' =
     Stops Over c (old.unread ++ take (MAX_CONNECTION_BYTES - old.taken) piece) before now talk talk'
     ⊎ ((unread' : List ℕ) × Holds Over c (old.unread ++ take (MAX_CONNECTION_BYTES - old.taken) piece) unread' before now talk talk'

@@ -5,7 +5,7 @@ ghost use Rattle.cs_base.specs.outside.Hub.{IsLive};
 ghost use Rattle.cs_hub.specs.{Asked.{AsksAsSent, StaysAnswering}, DueReads.{SentBefore, requests_on}, Speaking.{Calm}, Turns.{KeepsBelow, Reads, Received}};
 
 use crate::answerer::Answerer;
-use crate::reading::{Reading, Turn};
+use crate::reading::{Turn, Unread};
 use cs_base::{Hub, MAX_CONNECTION_BYTES};
 use std::alloc::Global;
 use std::marker::Model;
@@ -13,7 +13,7 @@ use std::marker::Model;
 /// A live connection: its unread bytes, and how many bytes were taken, fewer than count.
 #[derive(Debug, Drop)]
 pub(crate) struct Line {
-    reading: Reading,
+    reading: Unread,
     taken: usize,
 }
 
@@ -38,7 +38,7 @@ impl Line {
         ensures { result ≡ record { taken = 0; unread = [] } }
     {
         Line {
-            reading: Reading::new(alloc),
+            reading: Unread::new(alloc),
             taken: 0,
         }
     }
@@ -58,7 +58,7 @@ impl Line {
             (H.talk hub.new) }
         ensures room { self.taken < MOST }
         ensures asked { AsksAsSent A.leaves (is_some result) (requests_on (self.unread ++ take (MOST - self.taken) piece.now)) (A.kept answerer.old)
-            (A.kept answerer.new) (SentBefore conn (self.unread ++ take (MOST - self.taken) piece.now) (H.talk hub.old) (H.talk hub.new)) }
+            (A.kept answerer.new) (SentBefore conn (is_some result) (self.unread ++ take (MOST - self.taken) piece.now) (H.talk hub.old) (H.talk hub.new)) }
         ensures stays { StaysAnswering A.answers A.lent A.faults answerer.old answerer.new }
         ensures calm { Calm H.state H.talk H.faults H.send_faults hub.old hub.new }
     {
@@ -70,7 +70,7 @@ impl Line {
 }
 
 // The connection behind its bytes; None where it is to be closed.
-fn kept_of(reading: Reading, taken: usize, goes: bool) -> Option<Line>
+fn kept_of(reading: Unread, taken: usize, goes: bool) -> Option<Line>
     ensures { KeepsBelow goes taken reading result }
 {
     if goes && taken < MAX_CONNECTION_BYTES {
@@ -82,7 +82,7 @@ fn kept_of(reading: Reading, taken: usize, goes: bool) -> Option<Line>
 
 // Answers the heads in these bytes; true where the connection goes on.
 fn read_on<A: Answerer, H: Hub>(
-    reading: &mut Reading,
+    reading: &mut Unread,
     alloc: Global,
     answerer: &mut A,
     hub: &mut H,
@@ -94,7 +94,7 @@ fn read_on<A: Answerer, H: Hub>(
     ensures reads { Reads (A.answers answerer.old) conn (reading.old ++ piece.now) result reading.new (A.faults answerer.old) (A.faults answerer.new)
         (H.talk hub.old) (H.talk hub.new) }
     ensures asked { AsksAsSent A.leaves result (requests_on (reading.old ++ piece.now)) (A.kept answerer.old) (A.kept answerer.new)
-        (SentBefore conn (reading.old ++ piece.now) (H.talk hub.old) (H.talk hub.new)) }
+        (SentBefore conn result (reading.old ++ piece.now) (H.talk hub.old) (H.talk hub.new)) }
     ensures stays { StaysAnswering A.answers A.lent A.faults answerer.old answerer.new }
     ensures calm { Calm H.state H.talk H.faults H.send_faults hub.old hub.new }
 {

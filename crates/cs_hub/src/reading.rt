@@ -29,12 +29,12 @@ pub(crate) enum Turn {
 
 /// The unread bytes of a connection, which hold no whole head. There are fewer than a head may have.
 #[derive(Debug, Drop)]
-pub(crate) struct Reading {
+pub(crate) struct Unread {
     unread: Vec<u8>,
     seen: Seen,
 }
 
-impl Model for Reading {
+impl Model for Unread {
     ghost use Rattle.std.specs.Prelude.{ℕ, List};
     ghost use Rattle.std.specs.Coded.{coded_list, coded_ℕ};
     ghost use Rattle.cs_hub.specs.Turns.{IsOpen};
@@ -48,12 +48,12 @@ impl Model for Reading {
     ghost invariant = { λ r. IsOpen r.unread.items r.seen };
 }
 
-impl Reading {
+impl Unread {
     /// Nothing came. It takes no memory.
-    pub fn new(alloc: Global) -> Reading
+    pub fn new(alloc: Global) -> Unread
         ensures { result ≡ [] }
     {
-        Reading {
+        Unread {
             unread: Vec::new(alloc),
             seen: Seen::nothing(),
         }

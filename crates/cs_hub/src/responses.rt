@@ -7,7 +7,7 @@ ghost use Rattle.cs_model_serving.specs.Responses.{response_to, to_params, too_l
 ghost use Rattle.cs_query.specs.RequestView.{asked};
 ghost use Rattle.cs_hub.specs.Asked.{AsksAsSent, StaysAnswering};
 ghost use Rattle.cs_hub.specs.DueReads.{IsBy, IsResponseBy, closes_behind, requests_by, requests_in};
-ghost use Rattle.cs_hub.specs.Responding.{response, IsJudgedSo, IsRefusedSo, replied};
+ghost use Rattle.cs_hub.specs.Responding.{response, IsJudgedSo, IsRefusedSo, reply_response};
 ghost use Rattle.cs_hub.specs.Turns.{IsGiven};
 
 use crate::answer::{Answer, Body};
@@ -121,11 +121,11 @@ fn reply_to<A: Answerer>(
 ) -> Result<Answer, Memory>
     requires limits { HoldsLimits (asked request.now) }
 
-    ensures ok { IfOk result (λ a. IsGiven (A.answers answerer.old) (λ k. replied k (asked request.now) close) (response a) (A.faults answerer.old)
+    ensures ok { IfOk result (λ a. IsGiven (A.answers answerer.old) (λ k. reply_response k (asked request.now) close) (response a) (A.faults answerer.old)
         (A.faults answerer.new)) }
     ensures close { IfOk result (λ a. a.close ≡ close) }
     ensures asked { AsksAsSent A.leaves (is_ok result) (asked request.now ∷ []) (A.kept answerer.old) (A.kept answerer.new)
-        (λ xs. IfOk result (λ a. IsBy (λ k. replied k (asked request.now) close) close xs (response a))) }
+        (λ xs. IfOk result (λ a. IsBy (λ k. reply_response k (asked request.now) close) close xs (response a))) }
     ensures stays { StaysAnswering A.answers A.lent A.faults answerer.old answerer.new }
 {
     let (status, body) = match answerer.reply(alloc, request) {

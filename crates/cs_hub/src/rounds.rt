@@ -1,13 +1,16 @@
 //! Rounds of the loop over the events of a hub.
 ghost use Rattle.std.specs.Prelude.{◌≡◌, ◌<◌, ◌≤◌, ◌⊎◌, ℕ, None, true, false, length, is_some};
+ghost use Rattle.std.specs.Option.{ForSome};
 ghost use Rattle.cs_base.specs.outside.Hub.{came_of, IsOrderly};
-ghost use Rattle.cs_model.specs.Corpus.{Corpus};
-ghost use Rattle.cs_hub.specs.{Asked.{StaysAnswering}, HubFollowing.{HasLive, IsWhole, left_at}};
+ghost use Rattle.cs_engine.specs.Keeping.{AreGood};
+ghost use Rattle.cs_file.specs.Indexes.{HasAllBlocks, StandsFor};
+ghost use Rattle.cs_model_index.specs.Sections.{file_corpus};
+ghost use Rattle.cs_hub.specs.{Asked.{LeavesIndex}, HubFollowing.{HasLive, IsWhole, left_at}, Totals.{StaysAsked}};
 ghost use Rattle.cs_hub.specs.Rounds.{GoesOnAfter, HasBytes, OpensBelow, StaysBeside, StaysServed, Went};
 
-use crate::answerer::Answerer;
 use crate::slots::Core;
-use cs_base::{Event, Hub};
+use cs_base::{Event, Hub, Store};
+use cs_engine::Engine;
 use std::alloc::Global;
 
 /// How a round went.
@@ -33,15 +36,17 @@ pub(crate) fn is_busy(core: &Core, opened: u32, conns: u32) -> bool
 }
 
 /// An event comes, and the step of it.
-pub(crate) fn take_turn<A: Answerer, H: Hub>(
+pub(crate) fn take_turn<S: Store, H: Hub>(
     core: &mut Core,
     alloc: Global,
-    answerer: &mut A,
+    engine: &mut Engine,
+    store: &mut S,
     hub: &mut H,
     buffer: &mut [u8],
     opened: u32,
     conns: u32,
 ) -> Round
+    requires fits { HasAllBlocks (S.bytes store.old) engine.old.index }
     requires some { 0 < length buffer.old }
     requires live { HasLive core.old (H.state hub.old) }
     requires orderly { IsOrderly (H.state hub.old) (H.talk hub.old) }
@@ -49,17 +54,20 @@ pub(crate) fn take_turn<A: Answerer, H: Hub>(
     requires conns { (H.state hub.old).conns ≡ conns }
     requires most { opened ≤ conns }
 
-    ensures served { (k : Corpus) → A.answers answerer.old k
-        → StaysServed k core.old core.new (H.state hub.old) (H.state hub.new) (H.talk hub.old) (H.talk hub.new) (A.faults answerer.old)
-        (A.faults answerer.new) }
+    ensures served { ForSome (S.bytes store.old) (λ b. StandsFor b engine.old.index → AreGood b engine.old
+        → StaysServed (file_corpus b) core.old core.new (H.state hub.old) (H.state hub.new) (H.talk hub.old) (H.talk hub.new) (S.faults store.old)
+        (S.faults store.new)) }
+    ensures good { ForSome (S.bytes store.old) (λ b. StandsFor b engine.old.index → AreGood b engine.old → AreGood b engine.new) }
+    ensures asked { StaysAsked (S.bytes store.old) core.old core.new engine.old engine.new (S.reads store.old) (S.reads store.new) (S.faults store.old)
+        (S.faults store.new) (H.talk hub.old) (H.talk hub.new) }
     ensures went { Went result (H.state hub.old) (H.state hub.new) (H.talk hub.old) (H.talk hub.new) (H.faults hub.old) (H.faults hub.new) core.old core.new }
     ensures beside { StaysBeside H.state H.talk H.send_faults conns core.new hub.old hub.new }
     ensures hub_later { H.faults hub.old ≤ H.faults hub.new }
-    ensures stays { StaysAnswering A.answers A.lent A.faults answerer.old answerer.new }
+    ensures leaves { LeavesIndex S.bytes S.lent S.faults engine.old engine.new store.old store.new }
 {
     match hub.next(buffer) {
         Ok(event) => {
-            core.step_with(alloc, answerer, hub, event, piece_of(event, buffer));
+            core.step(alloc, engine, store, hub, event, piece_of(event, buffer));
             counted(event, opened, conns)
         }
         Err(_) => Round::Failed,

@@ -3,7 +3,7 @@ ghost use Rattle.std.specs.Prelude.{◌≡◌, IfOk};
 ghost use Rattle.cs_base.specs.outside.Hub.{IsLive};
 ghost use Rattle.cs_model_serving.specs.Responses.{response_bytes};
 ghost use Rattle.cs_hub.specs.Responding.{response};
-ghost use Rattle.cs_hub.specs.Speaking.{Said, Starved, Calm};
+ghost use Rattle.cs_hub.specs.Speaking.{SaidOn, Starved, Calm};
 ghost use Rattle.cs_hub.specs.Turns.{Delivered};
 
 use crate::answer::{Answer, Body};
@@ -16,7 +16,7 @@ use std::alloc::Global;
 pub(crate) fn say<H: Hub>(hub: &mut H, conn: u32, text: &[u8]) -> bool
     requires live { IsLive (H.state hub.old) conn }
 
-    ensures said { Said conn text.now result (H.talk hub.old) (H.talk hub.new) }
+    ensures said { SaidOn conn text.now result (H.talk hub.old) (H.talk hub.new) }
     ensures calm { Calm H.state H.talk H.faults H.send_faults hub.old hub.new }
 {
     match hub.send(conn, text) {

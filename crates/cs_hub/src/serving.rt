@@ -5,12 +5,10 @@ ghost use Rattle.std.specs.Option.{ForSome};
 ghost use Rattle.cs_base.specs.{declared.content.limits.TheConstants.{MAX_CONNECTION_BYTES}, outside.{Causes.{Rose}, Hub.{IsOrderly, listens}}};
 ghost use Rattle.cs_engine.specs.Keeping.{AreGood};
 ghost use Rattle.cs_file.specs.Indexes.{HasAllBlocks, StandsFor};
-ghost use Rattle.cs_model.specs.Corpus.{Corpus};
 ghost use Rattle.cs_model_index.specs.Sections.{file_corpus};
-ghost use Rattle.cs_hub.specs.{Asked.{LeavesIndex, StaysAnswering}, Ending.{Ends}, HubFollowing.{AreServed}, Rounds.{came_by}, Speaking.{AreUnbroken}};
+ghost use Rattle.cs_hub.specs.{Asked.{LeavesIndex}, Ending.{Ends}, HubFollowing.{AreServed}, Rounds.{came_by}, Speaking.{AreUnbroken}};
+ghost use Rattle.cs_hub.specs.Totals.{AsksInAll};
 
-use crate::answerer::Answerer;
-use crate::asking::Asking;
 use crate::rounds::{Round, is_busy, take_turn};
 use crate::slots::Core;
 use cs_base::{Hub, Store};
@@ -70,39 +68,48 @@ pub fn serve<S: Store, H: Hub>(
     // Each event opens a connection, takes one of its bytes or ends one.
     ensures events { ForSome (H.talk hub.old) (λ t. ForSome (H.talk hub.new) (λ u. length u.came ≤ length t.came + conns * (MAX_CONNECTION_BYTES + 2) + 1)) }
 
+    // Each request that was asked is one of a head that came, in order, and its answer was sent; no more is read than is due for all.
+    ensures asked { AsksInAll (S.bytes store.old) engine.old engine.new (S.reads store.old) (S.reads store.new) (S.faults store.old) (S.faults store.new)
+        (H.talk hub.new) }
+
     ensures leaves { LeavesIndex S.bytes S.lent S.faults engine.old engine.new store.old store.new }
 {
     let Ok(mut buffer) = vec![in alloc; 0; PIECE_BYTES] else {
         return ServeEnd::Memory;
     };
-    let mut asking = Asking::new(engine, store);
-    serve_over(alloc, &mut asking, hub, conns, buffer.as_mut_slice())
+    serve_with(alloc, engine, store, hub, conns, buffer.as_mut_slice())
 }
 
-// The same over anything that answers requests, with a buffer for pieces.
-fn serve_over<A: Answerer, H: Hub>(
+// The same with a buffer for pieces.
+fn serve_with<S: Store, H: Hub>(
     alloc: Global,
-    answerer: &mut A,
+    engine: &mut Engine,
+    store: &mut S,
     hub: &mut H,
     conns: u32,
     buffer: &mut [u8],
 ) -> ServeEnd
     requires some { 0 < length buffer.old }
+    requires fits { HasAllBlocks (S.bytes store.old) engine.old.index }
     requires listens { (port : ℕ) × (H.state hub.old ≡ listens port conns) }
     requires orderly { IsOrderly (H.state hub.old) (H.talk hub.old) }
 
-    ensures served { (k : Corpus) → A.answers answerer.old k → AreServed k (H.state hub.new) (H.talk hub.new) (A.faults answerer.old) (A.faults answerer.new) }
+    ensures served { ForSome (S.bytes store.old) (λ b. StandsFor b engine.old.index → AreGood b engine.old
+        → AreServed (file_corpus b) (H.state hub.new) (H.talk hub.new) (S.faults store.old) (S.faults store.new)) }
+    ensures good { ForSome (S.bytes store.old) (λ b. StandsFor b engine.old.index → AreGood b engine.old → AreGood b engine.new) }
     ensures ends { Ends result conns (H.state hub.old) (H.state hub.new) (H.faults hub.old) (H.faults hub.new) }
     ensures sends_later { H.send_faults hub.old ≤ H.send_faults hub.new }
     ensures unbroken { ¬ Rose (H.send_faults hub.old) (H.send_faults hub.new) → ForSome (H.talk hub.new) AreUnbroken }
     ensures some_memory { result ≢ ServeEnd.Memory }
     ensures events { came_by (H.talk hub.new) ≤ came_by (H.talk hub.old) + conns * (MAX_CONNECTION_BYTES + 2) + 1 }
-    ensures stays { StaysAnswering A.answers A.lent A.faults answerer.old answerer.new }
+    ensures asked { AsksInAll (S.bytes store.old) engine.old engine.new (S.reads store.old) (S.reads store.new) (S.faults store.old) (S.faults store.new)
+        (H.talk hub.new) }
+    ensures leaves { LeavesIndex S.bytes S.lent S.faults engine.old engine.new store.old store.new }
 {
     let mut core = Core::new(alloc);
     let mut opened = 0;
     while is_busy(&core, opened, conns) {
-        match take_turn(&mut core, alloc, answerer, hub, buffer, opened, conns) {
+        match take_turn(&mut core, alloc, engine, store, hub, buffer, opened, conns) {
             Round::Goes(count) => opened = count,
             Round::Over => return ServeEnd::Done,
             Round::Failed => return ServeEnd::HubFailed,

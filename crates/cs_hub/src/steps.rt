@@ -7,7 +7,7 @@ ghost use Rattle.cs_engine.specs.Keeping.{AreGood};
 ghost use Rattle.cs_file.specs.Indexes.{HasAllBlocks, StandsFor};
 ghost use Rattle.cs_model.specs.Corpus.{Corpus};
 ghost use Rattle.cs_model_index.specs.Sections.{file_corpus};
-ghost use Rattle.cs_hub.specs.{Asked.{AsksAsSent, LeavesIndex, StaysAnswering}, Rounds.{Greets, Heeds, Lightens, OnlyCloses, Steps, closed_unless}};
+ghost use Rattle.cs_hub.specs.{Asked.{AsksAsSent, LeavesIndex, StaysAnswering}, Rounds.{ActsOn, Greets, Heeds, Lightens, OnlyCloses, TakesStep, closed_unless}};
 ghost use Rattle.cs_hub.specs.{HubFollowing.{HasLive, HasLiveBut, IsWhole, StaysRight, left_at}, Speaking.{BreaksBy, Starved}};
 ghost use Rattle.cs_hub.specs.DueReads.{AnswersWithin, SentAt, SentBefore, bytes_behind, bytes_to_answer, goes_on, requests_on};
 
@@ -41,12 +41,14 @@ impl Core {
             → StaysRight (file_corpus b) self.old self.new event piece.now (H.state hub.old) (H.state hub.new) (H.talk hub.old) (H.talk hub.new)
             (S.faults store.old) (S.faults store.new)) }
         ensures good { ForSome (S.bytes store.old) (λ b. StandsFor b engine.old.index → AreGood b engine.old → AreGood b engine.new) }
-        ensures steps { Steps H.state H.talk H.faults H.send_faults event self.old self.new hub.old hub.new }
+        ensures steps { TakesStep H.state H.talk H.faults H.send_faults event self.old self.new hub.old hub.new }
+        // At Over nothing is sent, and the memory response to a connection that opens only where it isn't kept.
+        ensures acts { ActsOn event self.old self.new piece.now (H.state hub.old) (H.state hub.new) (H.talk hub.old) (H.talk hub.new) }
 
         // How much is read for the requests that are answered, over every store and hub.
         ensures reads { AnswersWithin (S.bytes store.old) (goes_on self.new event) (requests_on (bytes_to_answer self.old event piece.now)) engine.old
             engine.new (S.reads store.old) (S.reads store.new) (S.faults store.old) (S.faults store.new)
-            (SentAt event (bytes_to_answer self.old event piece.now) (H.talk hub.old) (H.talk hub.new)) }
+            (SentAt event (goes_on self.new event) (bytes_to_answer self.old event piece.now) (H.talk hub.old) (H.talk hub.new)) }
 
         ensures leaves { LeavesIndex S.bytes S.lent S.faults engine.old engine.new store.old store.new }
     {
@@ -69,9 +71,10 @@ impl Core {
         ensures follows { (k : Corpus) → A.answers answerer.old k
             → StaysRight k self.old self.new event piece.now (H.state hub.old) (H.state hub.new) (H.talk hub.old) (H.talk hub.new) (A.faults answerer.old)
             (A.faults answerer.new) }
-        ensures steps { Steps H.state H.talk H.faults H.send_faults event self.old self.new hub.old hub.new }
+        ensures steps { TakesStep H.state H.talk H.faults H.send_faults event self.old self.new hub.old hub.new }
+        ensures acts { ActsOn event self.old self.new piece.now (H.state hub.old) (H.state hub.new) (H.talk hub.old) (H.talk hub.new) }
         ensures asked { AsksAsSent A.leaves (goes_on self.new event) (requests_on (bytes_to_answer self.old event piece.now)) (A.kept answerer.old)
-            (A.kept answerer.new) (SentAt event (bytes_to_answer self.old event piece.now) (H.talk hub.old) (H.talk hub.new)) }
+            (A.kept answerer.new) (SentAt event (goes_on self.new event) (bytes_to_answer self.old event piece.now) (H.talk hub.old) (H.talk hub.new)) }
         ensures stays { StaysAnswering A.answers A.lent A.faults answerer.old answerer.new }
     {
         match event {
@@ -119,7 +122,8 @@ impl Core {
         ensures orderly { IsOrderly (H.state hub.old) (H.talk hub.old) → IsOrderly (H.state hub.new) (H.talk hub.new) }
         ensures lighter { Lightens (Event.Piece conn (length piece.now)) self.old self.new }
         ensures asked { AsksAsSent A.leaves (is_some (left_at self.new conn)) (requests_on (bytes_behind (left_at self.old conn) piece.now))
-            (A.kept answerer.old) (A.kept answerer.new) (SentBefore conn (bytes_behind (left_at self.old conn) piece.now) (H.talk hub.old) (H.talk hub.new)) }
+            (A.kept answerer.old) (A.kept answerer.new)
+            (SentBefore conn (is_some (left_at self.new conn)) (bytes_behind (left_at self.old conn) piece.now) (H.talk hub.old) (H.talk hub.new)) }
         ensures stays { StaysAnswering A.answers A.lent A.faults answerer.old answerer.new }
     {
         let line = self.replace(conn, Line::new(alloc));

@@ -5,3 +5,5 @@ pub mod TrialLineLemmas
 pub mod TypingLemmas
 pub mod NoneRefused
 pub mod TypedTexts
+pub mod AcceptedTrials
+pub mod TrialCollections

@@ -1,5 +1,6 @@
 -- No text that is typed is refused.
 --
+--   letter_lower     a letter is a small one
 --   typed_same       a typed text is its own key text
 --   typed_passes     no character of it is refused
 --   none_refused     so it has no refused character
@@ -24,7 +25,7 @@ use Rattle.cs_trial.specs.Typed.{IsLetter, AreLetters, IsTyped}
 use Rattle.cs_trial.proofs.WordsLemmas.{letters_ascii}
 
 -- ---- letters
-letter_lower : (x : ℕ) → IsLetter x → to_ascii_lowercase x ≡ x
+pub letter_lower : (x : ℕ) → IsLetter x → to_ascii_lowercase x ≡ x
 letter_lower x h =
     let above : nat_lt x 65 ≡ false = grind (arith, nat_tests) in
     let past : nat_lt x 91 ≡ false = grind (arith, nat_tests) in

@@ -1,7 +1,7 @@
 -- Lines of a trial's collection, one after the other.
 --
 --   put_behind      one more word of a title or a text, behind another one
---   text_draws      the draws of a line's text
+--   title_draws, facet_draw, text_draws      the draws of a line's title, of its facet and of its text
 --   line_is         a line is its title, its facet and its text
 --   behind_line     a line takes sixteen draws
 --   flat_map_more   one more entry of numbers that count up
@@ -27,11 +27,11 @@ put_behind old now i x w some told is =
     let later : (i == 0) ≡ false = grind (arith, nat_tests) in
     rw later at (put_more old now i x w told is)
 
-title_draws : (x : ℕ) → line_title (draws line_bounds x) ≡ draws (replicate 3 WORDS) x
+pub title_draws : (x : ℕ) → line_title (draws line_bounds x) ≡ draws (replicate 3 WORDS) x
 unfolding draws behind
 title_draws x = refl
 
-facet_draw : (x : ℕ) → line_syllable (draws line_bounds x) ≡ drawn 16 (behind 3 x)
+pub facet_draw : (x : ℕ) → line_syllable (draws line_bounds x) ≡ drawn 16 (behind 3 x)
 unfolding draws behind
 facet_draw x = refl
 

@@ -1,6 +1,7 @@
 -- Words of three syllables, and words in a row.
 --
 --   letters_ascii  letters are ASCII
+--   pair_of        a syllable has two letters
 --   word_form      a word has six letters
 --   word_ascii     so it is ASCII
 --   spaced_more    one more word behind some
@@ -15,7 +16,7 @@ use Rattle.cs_model_trial.specs.Generator.{syllable, word, spaced}
 use Rattle.cs_trial.specs.Typed.{IsLetter}
 
 -- two letters
-IsPair : List ℕ → Type 0
+unfoldable pub IsPair : List ℕ → Type 0
 IsPair s = (length s ≡ 2) × AllByRecursion IsLetter s
 
 abbrev table : List (List ℕ)
@@ -29,7 +30,7 @@ all_pairs : AllByRecursion IsPair table
 unfolding IsPair
 all_pairs = search (arith)
 
-pair_of : (n : ℕ) → n < 16 → IsPair (syllable n)
+pub pair_of : (n : ℕ) → n < 16 → IsPair (syllable n)
 pair_of n h = All-get_or IsPair table n [] h (All-from_recursion IsPair table all_pairs)
 
 pub all_append : {X : Type 0} (P : X → Type 0) (xs ys : List X) → AllByRecursion P xs → AllByRecursion P ys → AllByRecursion P (xs ++ ys)

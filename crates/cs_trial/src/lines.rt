@@ -1,7 +1,8 @@
 //! The collection of a trial.
-ghost use Rattle.std.specs.Prelude.{◌≡◌, ◌≤◌, ◌+◌, ◌*◌, ◌++◌, length, replicate, IfOk};
+ghost use Rattle.std.specs.Prelude.{◌≡◌, ◌≤◌, ◌+◌, ◌*◌, ◌++◌, length, replicate, IfOk, OnOk, None};
 ghost use Rattle.std.specs.Vec.{vec_len, vec_capacity};
 ghost use Rattle.cs_base.specs.declared.content.limits.TheConstants.{MAX_TRIAL};
+ghost use Rattle.cs_model.specs.Corpus.{refusal};
 ghost use Rattle.cs_model_trial.specs.Generator.{behind, collection, draws, line_bounds, spaced, trial_line};
 ghost use Rattle.cs_model_trial.specs.declared.sizes.TheConstants.{WORDS};
 ghost use Rattle.cs_trial.specs.declared.lines.TheConstants.{LINE_BYTES, PLACE_BYTES};
@@ -27,7 +28,9 @@ const KIND: &[u8] = b"\tkind=";
 pub fn collection(alloc: Global, n: u32) -> Result<Vec<u8>, Memory>
     requires { n ≤ MAX_TRIAL }
 
-    ensures { IfOk result (λ bytes. bytes.items ≡ collection n) }
+    ensures bytes { IfOk result (λ bytes. bytes.items ≡ collection n) }
+    // It is accepted: it breaks no rule and no limit of collections.
+    ensures accepted { OnOk result (refusal (collection n) ≡ None) }
 {
     let lines = LINES * n;
     let mut bytes = Vec::with_capacity(alloc, (LINE_BYTES * lines) as usize)?;

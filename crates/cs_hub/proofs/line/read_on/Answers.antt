@@ -1,7 +1,7 @@
 use Rattle.std.proofs.Common.{◌++◌, drop}
 use Rattle.cs_hub.proofs.PieceTurns.{along_start, along_next, along_hold, along_stop, calm_none, calm_both, stays_none, stays_both}
 use Rattle.std.specs.Prelude.{true}
-use Rattle.cs_hub.proofs.AskedLemmas.{along_start as asked_start, along_next as asked_next, along_hold as asked_hold, along_stop as asked_stop}
+use Rattle.cs_hub.proofs.AskedLemmas.{along_start as asked_start, along_next as asked_next, along_hold as asked_hold, along_rest as asked_rest, along_stop as asked_stop}
 use Rattle.cs_hub.proofs.line.read_on.Goals as goal
 
 pub loop-used-init : goal.loop-used-init
@@ -34,10 +34,14 @@ loop-used-preserved g c =
     }
 
 pub returns-in-Holds-clause-reads : goal.returns-in-Holds-clause-reads
-returns-in-Holds-clause-reads g c =
-    along_hold (g.A.Answerer.answers c.args.answerer.now) c.args.conn (c.args.reading.now ++ c.args.piece.now) c.loop-used.reading c.loop-used.rest.now
-    c.turn.new.self (g.A.Answerer.faults c.args.answerer.now) (g.A.Answerer.faults c.loop-used.answerer) (g.A.Answerer.faults c.turn.new.answerer)
-    (g.H.Hub.talk c.args.hub.now) (g.H.Hub.talk c.loop-used.hub) (g.H.Hub.talk c.turn.new.hub) c.loop-used.invariant.along c.in-Holds.ensures.turned
+returns-in-Holds-clause-reads g c = (
+  along_hold (g.A.Answerer.answers c.args.answerer.now) c.args.conn (c.args.reading.now ++ c.args.piece.now) c.loop-used.reading c.loop-used.rest.now
+      c.turn.new.self (g.A.Answerer.faults c.args.answerer.now) (g.A.Answerer.faults c.loop-used.answerer) (g.A.Answerer.faults c.turn.new.answerer)
+      (g.H.Hub.talk c.args.hub.now) (g.H.Hub.talk c.loop-used.hub) (g.H.Hub.talk c.turn.new.hub) c.loop-used.invariant.along c.in-Holds.ensures.turned,
+  asked_rest g.A.Answerer.leaves c.args.conn (c.args.reading.now ++ c.args.piece.now) (c.loop-used.reading ++ c.loop-used.rest.now) c.turn.new.self
+      (g.A.Answerer.kept c.args.answerer.now) (g.A.Answerer.kept c.loop-used.answerer) (g.A.Answerer.kept c.turn.new.answerer) (g.H.Hub.talk c.args.hub.now)
+      (g.H.Hub.talk c.loop-used.hub) (g.H.Hub.talk c.turn.new.hub) c.loop-used.invariant.asked c.in-Holds.ensures.asked c.in-Holds.ensures.turned.kept,
+)
 
 pub returns-in-Stops-clause-reads : goal.returns-in-Stops-clause-reads
 returns-in-Stops-clause-reads g c =

@@ -1,5 +1,5 @@
 use Rattle.std.proofs.lemmas.Result.{IfOk-weaker}
-use Rattle.cs_hub.specs.Responding.{response, IsRefusedSo, replied}
+use Rattle.cs_hub.specs.Responding.{response, IsRefusedSo, reply_response}
 use Rattle.cs_hub.specs.Turns.{IsGiven}
 use Rattle.cs_model_serving.specs.Responses.{to_params}
 use Rattle.cs_hub.proofs.RespondingLemmas.{given_params, given_refused}
@@ -27,10 +27,10 @@ returns-in-Ok-clause-asked g c =
     let result = c.reply_to.result in
     let s = g.A.Answerer.kept c.args.answerer.now in
     let t = g.A.Answerer.kept c.reply_to.new.answerer in
-    asks_by g.A.Answerer.leaves (is_ok result) (requests_by p (request_refusal p)) s t (λ xs. IfOk result (λ a. IsBy (λ k. replied k q close) close xs (response a)))
+    asks_by g.A.Answerer.leaves (is_ok result) (requests_by p (request_refusal p)) s t (λ xs. IfOk result (λ a. IsBy (λ k. reply_response k q close) close xs (response a)))
     (λ xs. IfOk result (λ a. IsBy (λ k. to_params k p close) close xs (response a)))
-    (λ xs h. IfOk-weaker result (λ a. IsBy (λ k. replied k q close) close xs (response a)) (λ a. IsBy (λ k. to_params k p close) close xs (response a))
-    (λ a b. by_same (λ k. replied k q close) (λ k. to_params k p close) close xs (response a)
+    (λ xs h. IfOk-weaker result (λ a. IsBy (λ k. reply_response k q close) close xs (response a)) (λ a. IsBy (λ k. to_params k p close) close xs (response a))
+    (λ a b. by_same (λ k. reply_response k q close) (λ k. to_params k p close) close xs (response a)
     (λ k. given_params k p q close c.in-Ok.ensures.accepted c.in-Ok.ensures.ok) b) h)
     (asks_params g.A.Answerer.leaves (is_ok result) p q s t _ c.in-Ok.ensures.accepted c.in-Ok.ensures.ok c.reply_to.ensures.asked)
 

@@ -1,6 +1,7 @@
 use Rattle.std.proofs.Common.{◌≡◌, ◌∙◌, ap, arith}
 use Rattle.std.specs.List.{flat_map, range_with_len}
 use Rattle.cs_model_trial.specs.Generator.{collection, line_draws, line_count, trial_line}
+use Rattle.cs_trial.proofs.AcceptedTrials.{accepted}
 use Rattle.cs_trial.proofs.TrialLineLemmas.{lines_more, line_behind}
 use Rattle.cs_trial.proofs.lines.collection.Goals as goal
 
@@ -12,8 +13,11 @@ loop-preserved c = record {
   room = omega (arith, c.with_line-bytes.ensures.capacity, c.loop.invariant.room);
 }
 
-pub returns : goal.returns
+pub returns-clause-bytes : goal.returns-clause-bytes
 unfolding collection
-returns c =
+returns-clause-bytes c =
     let all : c.loop.counter ≡ line_count c.args.n = omega (arith, c.loop-test.false, c.loop.auto.counter-end) in
     c.loop.invariant.bytes ∙ ap (λ k. flat_map (λ i. trial_line (line_draws c.args.n i)) (range_with_len 0 k)) all
+
+pub returns-clause-accepted : goal.returns-clause-accepted
+returns-clause-accepted c = accepted c.args.n c.requires

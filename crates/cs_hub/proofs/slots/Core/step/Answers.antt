@@ -2,8 +2,15 @@ use Rattle.std.proofs.Common.{ap, refl, rules, ◌∙◌}
 use Rattle.cs_model_index.specs.Sections.{file_corpus}
 use Rattle.cs_hub.specs.DueReads.{bytes_to_answer, goes_on, requests_on}
 use Rattle.cs_hub.proofs.AskedLemmas.{standing, stands_so, within_for}
-use Rattle.cs_hub.proofs.FollowLemmas.{good_after, over_same}
+use Rattle.cs_hub.proofs.FollowLemmas.{good_after, over_same, right_same}
 use Rattle.cs_hub.proofs.slots.Core.step.Goals as goal
+
+pub returns-clause-follows : goal.returns-clause-follows
+returns-clause-follows g c = λ b told stands good.
+    let kept = ap g.S.Store.bytes c.new-asking.ensures.store in
+    let over = over_same _ _ b c.args.engine.now _ kept c.new-asking.ensures.engine told stands good in
+    right_same (file_corpus b) _ _ _ _ _ _ _ _ _ _ _ _ (ap g.S.Store.faults c.new-asking.ensures.store) (search rules)
+    (c.step_with.ensures.follows (file_corpus b) over)
 
 pub returns-clause-good : goal.returns-clause-good
 returns-clause-good g c = λ b told stands good.

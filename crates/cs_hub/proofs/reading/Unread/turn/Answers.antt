@@ -2,7 +2,7 @@ use Rattle.std.proofs.Common.{arith, ◌≡◌, ◌++◌, ◌-◌, length, ap}
 use Rattle.cs_hub.proofs.UnreadBytes.{span_of, span_front}
 use Rattle.cs_hub.proofs.TurnLemmas.{found_more, found_long, turned_head, turned_long, turned_held}
 use Rattle.cs_hub.proofs.AskedLemmas.{turned_head as asked_head, turned_long as asked_long, turned_held as asked_held}
-use Rattle.cs_hub.proofs.reading.Reading.turn.Goals as goal
+use Rattle.cs_hub.proofs.reading.Unread.turn.Goals as goal
 
 pub answer-requires-clause-within : goal.answer-requires-clause-within
 answer-requires-clause-within g c =

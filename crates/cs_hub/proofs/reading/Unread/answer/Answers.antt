@@ -7,7 +7,7 @@ use Rattle.cs_model_serving.specs.Heads.{judge}
 use Rattle.cs_hub.specs.Asked.{AsksAsSent, SentFor}
 use Rattle.cs_hub.specs.DueReads.{requests_in}
 use Rattle.cs_hub.proofs.AskedLemmas.{asks_sent, sent_open, starved_for}
-use Rattle.cs_hub.proofs.reading.Reading.answer.Goals as goal
+use Rattle.cs_hub.proofs.reading.Unread.answer.Goals as goal
 
 pub invariant_of-self-2 : goal.invariant_of-self-2
 invariant_of-self-2 g c =
