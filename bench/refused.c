@@ -34,7 +34,6 @@ static const char *const classes[CLASSES] = {"memory", "read", "write", "sync", 
 struct counts {
     int64_t calls[CLASSES];
     int64_t refused;  /* calls that failed or were cut to one byte */
-    int64_t listens;  /* at the first of these it listened, and nothing had come yet */
     int64_t held;     /* pieces of memory that were given and aren't given back */
     int64_t files;    /* files that are open at the end, and weren't at the beginning */
     int64_t ended;    /* the program ended by itself */
@@ -92,8 +91,7 @@ static int is_met(int called) {
         return 0;
     if (!strcmp(how, "each") && number % from)
         return 0;
-    if (!told->refused++)
-        told->listens = told->calls[SEAT] && !told->calls[RECV];
+    told->refused++;
     return 1;
 }
 

@@ -1,5 +1,5 @@
 //! Who lets connections in.
-ghost use Rattle.std.specs.Prelude.{◌≡◌, ◌≤◌, true, false};
+ghost use Rattle.std.specs.Prelude.{◌≡◌, ◌≤◌, ◌+◌, ◌-◌, ◌^◌, min, true, false, IsSome};
 ghost use Rattle.complete.specs.declared.bounds.TheConstants.{ACCEPT_TRIES};
 
 use crate::bounds::{ACCEPT_PAUSE, ACCEPT_TRIES};
@@ -33,7 +33,7 @@ pub struct Acceptor<L: Drop> {
     is_awaited: bool,
     // Since when nobody is let in.
     paused: Option<Instant>,
-    // How often in a row letting someone in failed.
+    // How often letting someone in failed since someone came in.
     failures: u32,
 }
 
@@ -93,13 +93,12 @@ impl<L: Accept + Drop> Acceptor<L> {
         }
     }
 
-    /// Lets one in, if one waits. Where that fails it pauses.
-    pub fn accept(&mut self, now: Instant) -> Option<L::Stream> {
+    /// One who waits, who is then to be let in. Where that fails it pauses.
+    pub fn accept(&mut self, now: Instant) -> Option<L::Stream>
+        ensures { IsSome result → self.new.failures ≡ self.old.failures }
+    {
         match self.listener.accept_now() {
-            Ok(stream) => {
-                self.failures = 0;
-                Some(stream)
-            }
+            Ok(stream) => Some(stream),
             Err(error) => {
                 self.note_failure(error.kind(), now);
                 None
@@ -110,15 +109,22 @@ impl<L: Accept + Drop> Acceptor<L> {
     // One who went away before coming in is no failure, nor is that nobody waits.
     fn note_failure(&mut self, kind: ErrorKind, now: Instant) {
         match kind {
-            ErrorKind::WouldBlock => {
-                self.failures = 0;
-                self.is_awaited = false;
-            }
+            ErrorKind::WouldBlock => self.is_awaited = false,
             ErrorKind::Interrupted | ErrorKind::ConnectionAborted => {}
-            _ => {
-                self.failures = self.failures.saturating_add(1);
-                self.pause(now);
-            }
+            _ => self.note_admission(false, now),
+        }
+    }
+
+    /// Notes whether one who waited came in. Where not it pauses.
+    pub fn note_admission(&mut self, is_in: bool, now: Instant)
+        ensures came { is_in ≡ true → self.new.failures ≡ 0 }
+        ensures failed { is_in ≡ false → self.new.failures ≡ min (self.old.failures + 1) (2 ^ 32 - 1) }
+    {
+        if is_in {
+            self.failures = 0;
+        } else {
+            self.failures = self.failures.saturating_add(1);
+            self.paused = Some(now);
         }
     }
 

@@ -6,11 +6,10 @@ ghost use Rattle.complete.specs.Living.{IsTurn};
 ghost use Rattle.complete.specs.Seats.{HasSeat};
 
 use crate::acceptor::Acceptor;
-use crate::bounds::{ACCEPT_PAUSE, EVENTS, SWEEP};
+use crate::bounds::{ACCEPT_PAUSE, SWEEP};
 use crate::sockets::{Sockets, Turn};
 use mio::net::{TcpListener, TcpStream};
 use mio::{Events, Interest, Poll, Token};
-use std::alloc::Global;
 use std::io::{self, ErrorKind};
 use std::net::{IpAddr, Ipv4Addr, Net, SocketAddr};
 use std::time::{Clock, Duration, Instant};
@@ -30,24 +29,17 @@ pub struct EventLoop {
 }
 
 impl EventLoop {
-    /// One that listens at this port, with room for so many sockets.
-    pub fn open<R: Net + Clock>(
-        alloc: Global,
+    /// One that listens at this port. It takes no memory.
+    pub fn open<R: Net>(
         rt: &R,
         port: u16,
-        most: usize,
+        events: Events,
+        sockets: Sockets,
     ) -> io::Result<EventLoop> {
         let mut listener = TcpListener::bind(rt, own_address(port))?;
         let poll = Poll::new(rt)?;
         poll.registry()
             .register(&mut listener, LISTENER, Interest::READABLE)?;
-        let now = Instant::now(rt)?;
-        let Ok(events) = Events::with_capacity(alloc, EVENTS) else {
-            return Err(ErrorKind::OutOfMemory.into());
-        };
-        let Ok(sockets) = Sockets::new(alloc, most, now) else {
-            return Err(ErrorKind::OutOfMemory.into());
-        };
         Ok(EventLoop {
             poll,
             events,
@@ -158,20 +150,19 @@ impl EventLoop {
             self.acceptor.pause(now);
         } else if let Some(stream) = self.acceptor.accept(now) {
             self.has_admitted = self.seat(stream, number);
+            self.acceptor.note_admission(self.has_admitted, now);
             return self.has_admitted;
         }
         false
     }
 
-    // Keeps a stream. One whose options can't be set is lost already.
+    // Keeps a stream, if the system reports what comes on it. One that sends small parts late is as good.
     fn seat(&mut self, mut stream: TcpStream, number: u32) -> bool
         requires { HasSeat self.old.sockets }
     {
         let token = self.sockets.next_token();
         let interests = Interest::READABLE | Interest::WRITABLE;
-        if stream.set_nodelay(true).is_err() {
-            return false;
-        }
+        let _ = stream.set_nodelay(true);
         if self
             .poll
             .registry()

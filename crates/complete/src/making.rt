@@ -5,7 +5,7 @@ ghost use Rattle.std.specs.Io.KnownBytes.{Appends};
 ghost use Rattle.std.specs.String.{string_bytes};
 
 use crate::placing::{Steps, place};
-use crate::says::{is_unsynced, older_of};
+use crate::says::{is_link, is_unsynced, older_of};
 use crate::whole::write_whole;
 use std::alloc::{AllocError, Global};
 use std::fmt::Write;
@@ -38,13 +38,15 @@ pub struct Site {
 }
 
 impl Site {
-    /// The names for a file of this name. It fails for want of memory, and where a link leads to no file.
+    /// The names for a file of this name. It fails for want of memory, where a link leads to no file, and where the system can't say
+    /// whether the name is a link's.
     pub fn of<R: rt::Files>(alloc: Global, rt: &R, name: &str) -> io::Result<Site>
         ensures { IfOk result (λ s. string_bytes s.name ≡ name.now) }
     {
-        let target = match fs::symlink_metadata(rt, name) {
-            Ok(found) if found.is_symlink() => rt.canonicalize(alloc, name)?.into_string(),
-            _ => String::from_str(alloc, name)?,
+        let target = if is_link(fs::symlink_metadata(rt, name))? {
+            rt.canonicalize(alloc, name)?.into_string()
+        } else {
+            String::from_str(alloc, name)?
         };
         let room = target.len().saturating_add(BESIDE_BYTES);
         Ok(Site {

@@ -1,6 +1,6 @@
 //! What the program makes of the system's answers.
-ghost use Rattle.std.specs.Prelude.{◌≡◌, ◌↔◌, ◌<◌, IsTrue, IfOk, IfErr, IsErr, IsOkAnd, IsSomeAnd, Ok, Some, None};
-ghost use Rattle.std.specs.Fs.{metadata_len, metadata_mode, permissions_mode, file_type, IsDir, IsFile};
+ghost use Rattle.std.specs.Prelude.{◌≡◌, ◌↔◌, ◌<◌, IsTrue, IfOk, IfErr, IsErr, IsOkAnd, IsSomeAnd, Ok, Some, None, false};
+ghost use Rattle.std.specs.Fs.{metadata_len, metadata_mode, permissions_mode, file_type, IsDir, IsFile, IsSymlink};
 ghost use Rattle.std.specs.IoError.{error_kind};
 ghost use Rattle.complete.specs.System.{SaysAbsent, SaysUnsynced};
 
@@ -48,6 +48,20 @@ pub fn older_of(found: io::Result<Metadata>) -> io::Result<Option<Permissions>>
         Ok(found) if found.is_file() => Ok(Some(found.permissions())),
         Ok(_) => Err(ErrorKind::Unsupported.into()),
         Err(error) if is_absent(error.kind()) => Ok(None),
+        Err(error) => Err(error),
+    }
+}
+
+/// Whether a link has a name, by what the system says of the name itself. That no file has it is no link; where the system can't
+/// say, it fails.
+pub fn is_link(found: io::Result<Metadata>) -> io::Result<bool>
+    ensures found { IfOk found (λ m. IsOkAnd result (λ b. IsTrue b ↔ IsSymlink (file_type m))) }
+    ensures absent { IfErr found (λ e. SaysAbsent (error_kind e) → result ≡ Ok false) }
+    ensures err { IfErr found (λ e. ¬ SaysAbsent (error_kind e) → IsErr result) }
+{
+    match found {
+        Ok(found) => Ok(found.is_symlink()),
+        Err(error) if is_absent(error.kind()) => Ok(false),
         Err(error) => Err(error),
     }
 }

@@ -77,12 +77,12 @@ pub struct Sockets {
 }
 
 impl Sockets {
-    /// None yet, with room for so many.
+    /// None yet, with the memory for so many.
     pub fn new(alloc: Global, most: usize, now: Instant) -> Result<Sockets, AllocError> {
         Ok(Sockets {
-            slab: Slab::new(alloc),
+            slab: Slab::with_capacity(alloc, most)?,
             top: 0,
-            places: Vec::new(alloc),
+            places: Vec::with_capacity(alloc, most)?,
             most,
             ready: VecDeque::with_capacity(alloc, most)?,
             busy: VecDeque::with_capacity(alloc, most)?,
