@@ -2,7 +2,9 @@
 ghost use Rattle.std.specs.Prelude.{◌≡◌, ◌∷◌, ◌<◌, ◌≤◌, ◌^◌, ◌++◌, [], IfOk, OnOk, filter, length, map, string_bytes};
 ghost use Rattle.std.specs.List.{All, list_any};
 ghost use Rattle.std.specs.Str.{IsUtf8};
+ghost use Rattle.cs_base.specs.declared.content.doc.Doc.{Doc};
 ghost use Rattle.cs_base.specs.declared.content.limits.TheConstants.{MAX_DOC_WORDS};
+ghost use Rattle.cs_docs.specs.LinesRead.{doc_of_lent};
 ghost use Rattle.cs_model.specs.Words.{words};
 ghost use Rattle.cs_model_excerpts.specs.Excerpts.{bracketed, is_positive, is_textual, own_excerpt, run_text, textual};
 ghost use Rattle.cs_model_excerpts.specs.OwnWords.{part_marks};
@@ -12,6 +14,7 @@ ghost use Rattle.cs_more.specs.RunSearch.{places_of};
 use crate::marks::{has_mark_at, part_marks};
 use crate::runs::{Run, shortest_run};
 use cs_base::{Doc, Memory, Part, Query, Seq, Text, Word};
+use cs_docs::LentDoc;
 use cs_model_excerpts::MAX_EXCERPT_WORDS;
 use cs_text::words;
 use std::alloc::Global;
@@ -25,7 +28,28 @@ pub fn excerpt(alloc: Global, doc: &Doc, query: &Query) -> Result<Text, Memory>
 
     ensures ok { IfOk result (λ t. t ≡ own_excerpt query.now doc.now) }
 {
-    let words = words(alloc, doc.text.as_str())?;
+    let text = excerpt_of(alloc, doc.text.as_str(), query)?;
+    Ok(text)
+}
+
+/// The excerpt of a document whose columns are lent, as `excerpt` gives it.
+pub fn lent_excerpt(alloc: Global, doc: &LentDoc<'_>, query: &Query) -> Result<Text, Memory>
+    // A document of a collection has no more.
+    requires few { length (words doc.now.text.now) ≤ MAX_DOC_WORDS }
+
+    ensures ok { IfOk result (λ t. t ≡ own_excerpt query.now (doc_of_lent doc.now)) }
+{
+    let text = excerpt_of(alloc, doc.text, query)?;
+    Ok(text)
+}
+
+// The excerpt of each document with this text.
+fn excerpt_of(alloc: Global, text: &str, query: &Query) -> Result<Text, Memory>
+    requires few { length (words text.now) ≤ MAX_DOC_WORDS }
+
+    ensures ok { IfOk result (λ t. (doc : Doc) → doc.text ≡ text.now → t ≡ own_excerpt query.now doc) }
+{
+    let words = words(alloc, text)?;
     let marks = textual_marks(alloc, words.as_slice(), query.parts.as_slice())?;
     if marks.is_empty() {
         return Ok(Text::new(alloc));

@@ -3,8 +3,8 @@ use crate::hubs::{Came, hub_of};
 use crate::runs::{ASK, REPLAY, SERVE, built, held, run_beside, run_over, same};
 use cs_base::Memory;
 use cs_worked::{
-    BAD_FACET, BAD_NAME, BAD_WEIGHTS, PREFIX, SCRIPTS, SECOND_BAR, THREE_DOCUMENTS, TYPED, USAGE,
-    Worked, WorkedScript,
+    BAD_FACET, BAD_NAME, BAD_WEIGHTS, EXCERPTED, PREFIX, SCRIPTS, SECOND_BAR, THREE_DOCUMENTS,
+    TYPED, USAGE, Worked, WorkedScript,
 };
 use std::alloc::Global;
 use std::process::Abort;
@@ -19,6 +19,8 @@ const IMPORT_JSONL: &[&str] = &["import", "jsonl", "C", "I"];
 const UPGRADE: &[&str] = &["upgrade", "I", "N"];
 
 const MERGE: &[&str] = &["merge", "C", "Q", "N"];
+
+const EXCERPTS: &[&str] = &["excerpts", "C", "Q"];
 
 // What a plain search over sets of rows, in another language, counts of the first trial.
 const SUMMARY: &str =
@@ -66,6 +68,20 @@ fn are_answered(rt: &impl Abort, alloc: Global, row: &WorkedScript) -> Result<()
 fn lines_have_these_replies(rt: HostRuntime) -> Result<(), Fail> {
     for row in SCRIPTS {
         are_answered(&rt, rt.alloc(), row)?;
+    }
+    Ok(())
+}
+
+#[test]
+fn hits_have_these_excerpts(rt: HostRuntime) -> Result<(), Fail> {
+    let alloc = rt.alloc();
+    for row in EXCERPTED {
+        let script = script_of(alloc, row.lines)?;
+        let mut files = held(alloc, Some(row.collection.as_bytes()), Some(&script))?;
+        let left = run_over(alloc, EXCERPTS, &mut files)?;
+        let ending = (left.status, left.err.as_slice());
+        same(&rt, &ending, &(0, b"".as_slice()), row.collection);
+        are_put(&rt, &left.out, row.lines);
     }
     Ok(())
 }
@@ -270,6 +286,15 @@ const RUNS: &[Run] = &[
     (ASK, None, Some(b"q=a\n"), 5, "", "absent: C\n"),
     (ASK, None, None, 5, "", "absent: C\n"),
     (ASK, Some(b"\xFF"), None, 5, "", "absent: Q\n"),
+    (
+        EXCERPTS,
+        Some(b"\xFF"),
+        Some(b""),
+        3,
+        "",
+        "collection: line 1: not UTF-8\n",
+    ),
+    (EXCERPTS, Some(b""), None, 5, "", "absent: Q\n"),
     (SERVE, None, None, 5, "", "absent: I\n"),
     (UPGRADE, None, None, 5, "", "absent: I\n"),
     (MERGE, Some(b""), None, 5, "", "absent: Q\n"),

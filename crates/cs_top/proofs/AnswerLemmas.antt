@@ -7,9 +7,10 @@
 --   refusal_is, reply_is     a refusal and a reply as the text of the line
 --   refusal_put, reply_put, changed_put     over any files: the text of a refusal, of a reply and of a changed index file
 --   change_line     the last names the rule and its place
-use Rattle.std.proofs.Common.{◌≡◌, ◌≢◌, ◌==◌, ℕ, ◌≤◌, true, false, List, [], ◌∷◌, ◌++◌, length, inl, inr, refl, sym, ap, ◌∙◌, subst, Vec, Global}
+use Rattle.std.proofs.Common.{◌≡◌, ◌≢◌, ◌==◌, ℕ, ◌≤◌, true, false, List, [], ◌∷◌, ◌++◌, length, inl, inr, refl, sym, subst, Vec, Global}
 use Rattle.std.specs.Prelude.{Option, Some, None, is_some, Result, Ok, Err, OnOk, OnErr, IfOk, IfErr}
 use Rattle.std.specs.Option.{ForSome}
+use Rattle.cs_base.specs.declared.content.query.Query.{Query}
 use Rattle.cs_base.specs.declared.memory.Memory.{Memory}
 use Rattle.cs_engine.specs.Asking.{BreaksIndex}
 use Rattle.cs_file.specs.Indexes.{IndexView}
@@ -21,12 +22,13 @@ use Rattle.cs_query.specs.declared.request.ReqFault.TheVariants as causes
 use Rattle.cs_base.specs.outside.Causes.{Rose}
 use Rattle.cs_base.specs.outside.Outside.{Grew, GrewByPrefix}
 use Rattle.cs_model.specs.Corpus.{Corpus}
-use Rattle.cs_model.specs.Outputs.{MayPut, line_fault, memory_text, read_text, text}
+use Rattle.cs_model.specs.Outputs.{MayPut, line_fault, memory_text, read_text}
 use Rattle.cs_model.specs.Parameters.{request_of, request_refusal}
-use Rattle.cs_model.specs.Replies.{Reply, reply_text}
+use Rattle.cs_model.specs.Replies.{Reply}
 use Rattle.cs_model.specs.Requests.{Request, reply_of}
 use Rattle.cs_top.specs.Answering.{CameCounts, Costs, FileView, HasReply, HasText, MayAnswer, came_of_answer, line_bytes}
 use Rattle.cs_top.specs.CommandLine.{failed, CausedBy}
+use Rattle.cs_top.specs.HitForms.{AtHand, form_by, shown_reply}
 use Rattle.cs_top.specs.Met.{Wrote}
 use Rattle.cs_top.specs.PutTexts.{HasTextBy, IsChangeLine}
 use Rattle.cs_top.specs.ScriptEndings.{Passes, StopsAt}
@@ -37,9 +39,11 @@ use Rattle.cs_top.specs.declared.script.Came.{Came}
 use Rattle.cs_top.specs.declared.script.Came.TheVariants as came
 use Rattle.cs_top.specs.declared.script.answers.Answer.{Answer}
 use Rattle.cs_top.specs.declared.script.answers.Answer.TheVariants as answers
-use Rattle.cs_top.proofs.LineTexts.{refused_apart, refused_own, refused_text, request_text}
+use Rattle.cs_top.specs.declared.words.HitForm.{HitForm}
+use Rattle.cs_top.proofs.LineTexts.{refused_own}
 use Rattle.cs_top.proofs.PutTextLemmas.{change_put, text_put}
-use Rattle.cs_top.proofs.TextsApart.{memory_apart, reply_apart}
+use Rattle.cs_top.proofs.ShownLemmas.{memory_shown, refused_shown, reply_in, reply_shown}
+use Rattle.cs_top.proofs.TextsApart.{memory_apart, own_unread, replied_apart}
 
 plain_costs : (n m : ℕ) (t : List ℕ) → n ≤ m → t ≢ read_text → Costs came.Answered n m t
 plain_costs n m t later other = record { later = later; read = λ e. absurd (other e); clean = λ h. other; unchanged = λ e. cc e }
@@ -50,31 +54,31 @@ has_costs A l answers.Memory n m memory h c = (memory_text, refl, memory, plain_
 has_costs A l answers.Read n m memory h c = (read_text, refl, h, record { later = c.later; read = λ e. c.read refl; clean = λ low. absurd (low refl); unchanged = λ e. cc e })
 has_costs A l (answers.Changed b) n m memory h c = absurd h
 
-module _ (f : FileView) (k : Corpus) (l : ℕ × List ℕ) (a : Answer) (n m : ℕ) (some : l.1 ≢ []) (read : line_fault l ≡ None) (h : HasText (MayAnswer f k) l.1 a) (c : CameCounts (came_of_answer a) n m) where
-  text_there : (t : List ℕ) × (line_bytes a ≡ t ++ 10 ∷ []) × MayAnswer f k l.1 t × Costs (came_of_answer a) n m t
-  text_there = has_costs (MayAnswer f k) l.1 a n m (inl (inr refl)) h c
+module _ (docs : AtHand) (f : FileView) (k : Corpus) (l : ℕ × List ℕ) (a : Answer) (n m : ℕ) (some : l.1 ≢ []) (read : line_fault l ≡ None) (h : HasText (MayAnswer docs f k) l.1 a) (c : CameCounts (came_of_answer a) n m) where
+  text_there : (t : List ℕ) × (line_bytes a ≡ t ++ 10 ∷ []) × MayAnswer docs f k l.1 t × Costs (came_of_answer a) n m t
+  text_there = has_costs (MayAnswer docs f k) l.1 a n m (inl (memory_shown docs k l.1)) h c
 
-  pub passes : (old new : Option (List ℕ)) → Grew old (line_bytes a) new → Passes (MayAnswer f k) l old new (came_of_answer a) n m
+  pub passes : (old new : Option (List ℕ)) → Grew old (line_bytes a) new → Passes (MayAnswer docs f k) l old new (came_of_answer a) n m
   passes old new g =
       let x = text_there in
       inr (some, read, (x.0, x.2, x.3, subst (λ b. Grew old b new) x.1 g))
 
-  pub stops_there : (w : Wrote) → GrewByPrefix w.old (line_bytes a) w.new → Rose w.before w.now → StopsAt (MayAnswer f k) failed l w n m
+  pub stops_there : (w : Wrote) → GrewByPrefix w.old (line_bytes a) w.new → Rose w.before w.now → StopsAt (MayAnswer docs f k) failed l w n m
   stops_there w g rose =
       let x = text_there in
       (some, read, rose, (came_of_answer a, x.0, x.2, x.3, subst (λ b. GrewByPrefix w.old b w.new) x.1 g))
 
   -- a line whose answer was put
-  pub line_ok : {E : Type 0} (r : Result Came E) (old new : Option (List ℕ)) → OnOk r (Grew old (line_bytes a) new) → IfOk r (λ x. x ≡ came_of_answer a) → IfOk r (λ came. Passes (MayAnswer f k) l old new came n m)
-  line_ok (Ok x) old new g is = subst (λ y. Passes (MayAnswer f k) l old new y n m) (sym is) (passes old new g)
+  pub line_ok : {E : Type 0} (r : Result Came E) (old new : Option (List ℕ)) → OnOk r (Grew old (line_bytes a) new) → IfOk r (λ x. x ≡ came_of_answer a) → IfOk r (λ came. Passes (MayAnswer docs f k) l old new came n m)
+  line_ok (Ok x) old new g is = subst (λ y. Passes (MayAnswer docs f k) l old new y n m) (sym is) (passes old new g)
   line_ok (Err e) old new g is = tt
 
   -- and one whose answer wasn't put whole
   pub line_err : (r : Result Came ScriptStop) (w : Wrote) → OnErr r (GrewByPrefix w.old (line_bytes a) w.new) → IfErr r (λ s. s ≡ scripts.Failed) → IfErr r (λ s. CausedBy (stop_ending (of_script s)) w.before w.now)
-      → IfErr r (λ s. StopsAt (MayAnswer f k) (stop_ending (of_script s)) l w n m)
+      → IfErr r (λ s. StopsAt (MayAnswer docs f k) (stop_ending (of_script s)) l w n m)
   line_err (Ok x) w g is cause = tt
   line_err (Err s) w g is cause =
-      subst (λ x. StopsAt (MayAnswer f k) (stop_ending (of_script x)) l w n m) (sym is)
+      subst (λ x. StopsAt (MayAnswer docs f k) (stop_ending (of_script x)) l w n m) (sym is)
       (stops_there w g (subst (λ x. CausedBy (stop_ending (of_script x)) w.before w.now) is cause).0)
 
 -- what holds of what came holds of the result that says so
@@ -87,35 +91,36 @@ some_bytes [] h e = absurd cc
 some_bytes (b ∷ l) h e = absurd cc
 
 -- a refusal, as the answer to its line; without memory for its text that of want of memory
-pub refusal_is : (f : FileView) (k : Corpus) (p : List ℕ) (e : ReqFault) (r : Result (Vec ℕ Global) Memory) (a : Answer) → IsCause p e → IfOk r (λ b. a ≡ answers.Text b) → OnErr r (a ≡ answers.Memory)
-    → IfOk r (λ b. b.items ≡ fault_text (faults.Refused e) ++ 10 ∷ []) → OnOk r (e ≢ causes.Memory) → HasText (MayAnswer f k) p a
-refusal_is f k p e (Ok b) a cause whole none is other =
-    subst (HasText (MayAnswer f k) p) (sym whole) (text k p, is ∙ ap (λ t. t ++ 10 ∷ []) (sym (refused_text k p e cause other)), inl (inl refl), refused_apart k p e cause other)
-refusal_is f k p e (Err x) a cause whole none is other = subst (HasText (MayAnswer f k) p) (sym none) tt
+pub refusal_is : (docs : AtHand) (f : FileView) (k : Corpus) (p : List ℕ) (e : ReqFault) (r : Result (Vec ℕ Global) Memory) (a : Answer) → IsCause p e → IfOk r (λ b. a ≡ answers.Text b) → OnErr r (a ≡ answers.Memory)
+    → IfOk r (λ b. b.items ≡ fault_text (faults.Refused e) ++ 10 ∷ []) → OnOk r (e ≢ causes.Memory) → HasText (MayAnswer docs f k) p a
+refusal_is docs f k p e (Ok b) a cause whole none is other =
+    subst (HasText (MayAnswer docs f k) p) (sym whole) (fault_text (faults.Refused e), is, inl (refused_shown docs k p e cause other), own_unread (form_by docs) (fault_text (faults.Refused e)) (refused_own (form_by docs) e other))
+refusal_is docs f k p e (Err x) a cause whole none is other = subst (HasText (MayAnswer docs f k) p) (sym none) tt
 
 none_there : (o : Option (List ℕ)) → (is_some o ≡ true → ⊥) → o ≡ None
 none_there None never = refl
 none_there (Some b) never = absurd (never refl)
 
 -- the reply to a request, as the answer to its line
-pub reply_is : (f : FileView) (k : Corpus) (p : List ℕ) (r : Request) (a : Answer) → request_refusal p ≡ None → r ≡ request_of p → HasReply k r a → (is_some f.made ≡ true → came_of_answer a ≢ came.Read) → HasText (MayAnswer f k) p a
-reply_is f k p r (answers.Text b) accepted is h unread = (reply_text (reply_of k r), h, inl (inl (sym (request_text k p r accepted is))), reply_apart (reply_of k r))
-reply_is f k p r answers.Memory accepted is h unread = tt
-reply_is f k p r answers.Read accepted is h unread = inr (none_there f.made (λ e. unread e refl), inr (accepted, refl))
-reply_is f k p r (answers.Changed b) accepted is h unread = h
+pub reply_is : (docs : AtHand) (f : FileView) (k : Corpus) (p : List ℕ) (r : Request) (a : Answer) → request_refusal p ≡ None → r ≡ request_of p → HasReply docs k r a → (is_some f.made ≡ true → came_of_answer a ≢ came.Read) → HasText (MayAnswer docs f k) p a
+reply_is docs f k p r (answers.Text b) accepted is h unread =
+    (shown_reply docs r.query (reply_of k r), h, inl (reply_shown docs k p r accepted is), replied_apart (form_by docs) (shown_reply docs r.query (reply_of k r)) (reply_in docs r.query (reply_of k r)))
+reply_is docs f k p r answers.Memory accepted is h unread = tt
+reply_is docs f k p r answers.Read accepted is h unread = inr (none_there f.made (λ e. unread e refl), accepted, refl)
+reply_is docs f k p r (answers.Changed b) accepted is h unread = h
 
 -- ---- over any files
-pub refusal_put : (e : ReqFault) (r : Result (Vec ℕ Global) Memory) (a : Answer) → IfOk r (λ b. a ≡ answers.Text b) → OnErr r (a ≡ answers.Memory) → IfOk r (λ b. b.items ≡ fault_text (faults.Refused e) ++ 10 ∷ []) → OnOk r (e ≢ causes.Memory) → HasTextBy a
-refusal_put e (Ok b) a whole none is other = text_put (Ok b) a (fault_text (faults.Refused e)) whole none is (refused_own e other)
-refusal_put e (Err x) a whole none is other = text_put (Err x) a (fault_text (faults.Refused e)) whole none is tt
+pub refusal_put : (form : HitForm) (e : ReqFault) (r : Result (Vec ℕ Global) Memory) (a : Answer) → IfOk r (λ b. a ≡ answers.Text b) → OnErr r (a ≡ answers.Memory) → IfOk r (λ b. b.items ≡ fault_text (faults.Refused e) ++ 10 ∷ []) → OnOk r (e ≢ causes.Memory) → HasTextBy form a
+refusal_put form e (Ok b) a whole none is other = text_put form (Ok b) a (fault_text (faults.Refused e)) whole none is (refused_own form e other)
+refusal_put form e (Err x) a whole none is other = text_put form (Err x) a (fault_text (faults.Refused e)) whole none is tt
 
-pub reply_put : (p : Reply) (r : Result (Vec ℕ Global) Memory) (a : Answer) → IfOk r (λ b. a ≡ answers.Text b) → OnErr r (a ≡ answers.Memory) → IfOk r (λ b. b.items ≡ reply_text p ++ 10 ∷ []) → HasTextBy a
-reply_put p (Ok b) a whole none is = text_put (Ok b) a (reply_text p) whole none is (inl (p, refl))
-reply_put p (Err x) a whole none is = text_put (Err x) a (reply_text p) whole none is tt
+pub reply_put : (docs : AtHand) (q : Query) (p : Reply) (r : Result (Vec ℕ Global) Memory) (a : Answer) → IfOk r (λ b. a ≡ answers.Text b) → OnErr r (a ≡ answers.Memory) → IfOk r (λ b. b.items ≡ shown_reply docs q p ++ 10 ∷ []) → HasTextBy (form_by docs) a
+reply_put docs q p (Ok b) a whole none is = text_put (form_by docs) (Ok b) a (shown_reply docs q p) whole none is (inl (reply_in docs q p))
+reply_put docs q p (Err x) a whole none is = text_put (form_by docs) (Err x) a (shown_reply docs q p) whole none is tt
 
-pub changed_put : (o : Option (Vec ℕ Global)) (rule at : ℕ) → ForSome o (λ b. b.items ≡ fault_text (faults.Changed rule at) ++ 10 ∷ []) → HasTextBy (answers.Changed o)
+pub changed_put : (form : HitForm) (o : Option (Vec ℕ Global)) (rule at : ℕ) → ForSome o (λ b. b.items ≡ fault_text (faults.Changed rule at) ++ 10 ∷ []) → HasTextBy form (answers.Changed o)
 unfolding fault_text
-changed_put o rule at h = change_put o rule at h
+changed_put form o rule at h = change_put form o rule at h
 
 pub change_line : (i : IndexView) (told : Option (List ℕ)) (o : Option (Vec ℕ Global)) (rule at : ℕ) → BreaksIndex i told rule at → ForSome o (λ b. b.items ≡ fault_text (faults.Changed rule at) ++ 10 ∷ []) → IsChangeLine i told (answers.Changed o)
 unfolding fault_text

@@ -22,6 +22,7 @@ use Rattle.cs_top.specs.Trial.{TrialEnds}
 use Rattle.cs_top.specs.Upgrade.{CanUpgrade, UpgradeStops, UpgradeTold}
 use Rattle.cs_top.specs.declared.words.Form.{Form}
 use Rattle.cs_top.specs.declared.words.Form.TheVariants as forms
+use Rattle.cs_top.specs.declared.words.HitForm.{HitForm}
 use Rattle.cs_top.proofs.ServeEndings.{served_all}
 
 missing : (f : Option File) → IsHeld f → f ≡ None → ⊥
@@ -72,9 +73,9 @@ scripted A no_memory ls ts w can a calm = absurd a
 scripted A changed ls ts w can a calm = absurd a
 scripted A (merge_refused r) ls ts w can a calm = absurd a
 
-told : (e : Ending) (h : Held) (c s : List ℕ) (w : Wrote) → AskTold e h c s w → CanAsk h c s → (e ≡ failed → ⊥) → IsWell e
-told e h c s w (inl a) can calm = stopped e h c s can a.0 calm
-told e h c s w (inr a) can calm = scripted _ e (script_lines (held_bytes h s)) a.1.0 w can.1 a.1.1 calm
+told : (form : HitForm) (e : Ending) (h : Held) (c s : List ℕ) (w : Wrote) → AskTold form e h c s w → CanAsk h c s → (e ≡ failed → ⊥) → IsWell e
+told form e h c s w (inl a) can calm = stopped e h c s can a.0 calm
+told form e h c s w (inr a) can calm = scripted _ e (script_lines (held_bytes h s)) a.1.0 w can.1 a.1.1 calm
 
 unmade : (form : Form) (e : Ending) (h : Held) (c : List ℕ) → CanBuild form h c → BuildStops form e h c → (e ≡ failed → ⊥) → IsWell e
 unmade form (absent n) h c can a calm = absurd (missing (map.get h c) can.0 a.1)
@@ -229,8 +230,8 @@ pub completes : {H : Type 0} (e : Ending) (command : Option Command) (m : Met H)
 completes e None m r = λ h held able. absurd able
 completes e (Some (build form c i)) m r = λ h held able files out hub.
     built form e h c i m.held_now (r.told h held) able (no_failed_file e m.files_before m.files_now r.caused files)
-completes e (Some (ask c s)) m r = λ h held able files out hub.
-    told e h c s m.out (r.told h held) able (no_failure e m.files_before m.files_now m.out.before m.out.now r.caused files out)
+completes e (Some (ask form c s)) m r = λ h held able files out hub.
+    told form e h c s m.out (r.told h held) able (no_failure e m.files_before m.files_now m.out.before m.out.now r.caused files out)
 completes e (Some (replay i s)) m r = λ h held able files out hub.
     replay_told e h i s m.files_before m.files_now m.out (r.told h held) able (no_failed_replay e m.files_before m.files_now m.out.before m.out.now r.caused files out)
 completes e (Some (serve i p n)) m r = λ h held able. (

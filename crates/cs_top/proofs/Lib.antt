@@ -11,10 +11,10 @@ pub mod SaysLemmas
 pub mod SourceLemmas
 pub mod ScriptLemmas
 pub mod ServeEndings
+pub mod ShownLemmas
 pub mod StopLemmas
 pub mod TallyLemmas
 pub mod TextsApart
 pub mod LinesAtPlaces
-pub mod TrialCollections
 pub mod TrialLemmas
 pub mod WindowLemmas

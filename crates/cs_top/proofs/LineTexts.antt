@@ -11,14 +11,14 @@ use Rattle.cs_json.specs.FaultTexts.{fault_text}
 use Rattle.cs_json.specs.declared.fault.Fault.TheVariants as faults
 use Rattle.cs_model.specs.Corpus.{Corpus}
 use Rattle.cs_model.specs.Faults.{bad_text, limit_text, param_text}
-use Rattle.cs_model.specs.Outputs.{script_line_too_long, script_line_not_utf8, line_fault, read_text, text, text_by}
+use Rattle.cs_model.specs.Outputs.{script_line_too_long, script_line_not_utf8, line_fault, text, text_by}
 use Rattle.cs_model.specs.Parameters.{bad_param, bad_query, request_of, request_refusal}
 use Rattle.cs_model.specs.Refusals.{Bad, Limit}
 use Rattle.cs_query.specs.ParamNames.{param_name}
 use Rattle.cs_model.specs.Replies.{reply_text}
 use Rattle.cs_model.specs.Requests.{Request, reply_of}
 use Rattle.cs_top.specs.PutTexts.{IsOwnText}
-use Rattle.cs_top.proofs.TextsApart.{refusal_apart}
+use Rattle.cs_top.specs.declared.words.HitForm.{HitForm}
 use Rattle.cs_query.specs.declared.request.ReqFault.{ReqFault}
 use Rattle.cs_query.specs.declared.request.ReqFault.TheVariants as causes
 
@@ -30,21 +30,13 @@ refused_text k p (causes.Bad at) h other = ap (text_by k p) h
 refused_text k p (causes.Limit at which) h other = ap (text_by k p) h
 refused_text k p causes.Memory h other = absurd (other refl)
 
--- a refused line has no other text than that of its refusal
-pub refused_apart : (k : Corpus) (p : List ℕ) (e : ReqFault) → IsCause p e → e ≢ causes.Memory → text k p ≢ read_text
-unfolding text
-refused_apart k p (causes.BadParam which) h other = λ is. refusal_apart (bad_param (param_name which)) (sym (ap (text_by k p) h) ∙ is)
-refused_apart k p (causes.Bad at) h other = λ is. refusal_apart (bad_query at Bad) (sym (ap (text_by k p) h) ∙ is)
-refused_apart k p (causes.Limit at which) h other = λ is. refusal_apart (bad_query at (Limit which)) (sym (ap (text_by k p) h) ∙ is)
-refused_apart k p causes.Memory h other = absurd (other refl)
-
 -- of a refusal that isn't want of memory
-pub refused_own : (e : ReqFault) → e ≢ causes.Memory → IsOwnText (fault_text (faults.Refused e))
+pub refused_own : (form : HitForm) (e : ReqFault) → e ≢ causes.Memory → IsOwnText form (fault_text (faults.Refused e))
 unfolding fault_text
-refused_own (causes.BadParam which) other = inr (inl (bad_param (param_name which), refl))
-refused_own (causes.Bad at) other = inr (inl (bad_query at Bad, refl))
-refused_own (causes.Limit at which) other = inr (inl (bad_query at (Limit which), refl))
-refused_own causes.Memory other = absurd (other refl)
+refused_own form (causes.BadParam which) other = inr (inl (bad_param (param_name which), refl))
+refused_own form (causes.Bad at) other = inr (inl (bad_query at Bad, refl))
+refused_own form (causes.Limit at which) other = inr (inl (bad_query at (Limit which), refl))
+refused_own form causes.Memory other = absurd (other refl)
 
 -- the text of a line that is a request
 pub request_text : (k : Corpus) (p : List ℕ) (r : Request) → request_refusal p ≡ None → r ≡ request_of p → text k p ≡ reply_text (reply_of k r)

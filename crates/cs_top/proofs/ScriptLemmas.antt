@@ -1,7 +1,7 @@
 -- How a script ended, over other relations of a line and its text, and as `ask` and `replay` say it.
 --
 --   ends_by          what a relation says another one says too
---   made_only        over a file in memory a line has its text or that of want of memory
+--   made_only        over a file in memory a line has its text or that of want of memory, with or without excerpts
 --   held_by, over_made, there_made, some_made, over_held     what is answered over: a file that was made, and one that is held
 --   script_short, script_answered, script_read     of `replay`: its script ended early, each line was answered, a read failed
 use Rattle.std.proofs.Common.{◌≡◌, ℕ, ◌+◌, Bool, true, false, List, [], ◌∷◌, length, take, inl, inr, refl, sym, ap, ◌∙◌, subst, arith}
@@ -19,6 +19,7 @@ use Rattle.cs_file.specs.Indexes.{IndexView, HasAllBlocks, StandsFor}
 use Rattle.cs_model_index.specs.Sections.{file_corpus}
 use Rattle.cs_top.specs.Answering.{AnswersOver, FileView, IsReplayed, IsThere, MayAnswer, bytes_there}
 use Rattle.cs_top.specs.CommandLine.{Ending, done, usage, refused, damaged, absent, failed, no_memory, script_refused, changed, merge_refused}
+use Rattle.cs_top.specs.HitForms.{AtHand, MayShow}
 use Rattle.cs_top.specs.Met.{Wrote, held_bytes}
 use Rattle.cs_top.specs.ScriptRuns.{ReplayScript}
 use Rattle.cs_top.specs.ScriptEndings.{ScriptEnds, ShortTally, Tally}
@@ -49,13 +50,13 @@ some_none : (o : Option (List ℕ)) → is_some o ≡ true → o ≡ None → �
 some_none None some none = absurd cc
 some_none (Some b) some none = absurd cc
 
-pub made_only : (f : FileView) (k : Corpus) → is_some f.made ≡ true → (l t : List ℕ) → MayAnswer f k l t → IsAnswer k l t
-made_only f k some l t (inl a) = a
-made_only f k some l t (inr r) = absurd (some_none f.made some r.0)
+pub made_only : (docs : AtHand) (f : FileView) (k : Corpus) → is_some f.made ≡ true → (l t : List ℕ) → MayAnswer docs f k l t → MayShow docs k l t
+made_only docs f k some l t (inl a) = a
+made_only docs f k some l t (inr r) = absurd (some_none f.made some r.0)
 
-pub replayed : (f : FileView) (k : Corpus) (l t : List ℕ) → MayAnswer f k l t → IsReplayed k l t
+pub replayed : (f : FileView) (k : Corpus) (l t : List ℕ) → MayAnswer None f k l t → IsReplayed k l t
 replayed f k l t (inl a) = inl a
-replayed f k l t (inr r) = r.1
+replayed f k l t (inr (made, accepted, is)) = inr (accepted, is)
 
 -- ---- where no text says that a read failed
 counted : (t : List ℕ) (ts : List (List ℕ)) (b : Bool) → bytes_eq t read_text ≡ b → failed_reads (t ∷ ts) ≡ (if b then 1 + failed_reads ts else failed_reads ts)
@@ -79,23 +80,23 @@ plain_each k (l ∷ ls) (t ∷ ts) none h = one_plain k l t ls ts (bytes_eq t re
 
 -- ---- of `replay`
 module _ (f : FileView) (k : Corpus) (ls : List (ℕ × List ℕ)) (before now : ℕ) (w : Wrote) where
-  pub script_short : (s : ScriptStop) → ((ts : List (List ℕ)) × ScriptEnds (MayAnswer f k) (stop_ending (of_script s)) ls ts w × ShortTally (stop_ending (of_script s)) w before now ts) → ReplayScript k (stop_ending (of_script s)) ls before now w
-  script_short (scripts.Unread x) (ts, h, t) = (ts, ends_by (MayAnswer f k) (IsReplayed k) (replayed f k) (stop_ending (of_script (scripts.Unread x))) ls ts w h, t.rose)
-  script_short scripts.Failed (ts, h, t) = (ts, ends_by (MayAnswer f k) (IsReplayed k) (replayed f k) failed ls ts w h, t.rose, λ low few. absurd (few (t.more refl low)))
+  pub script_short : (s : ScriptStop) → ((ts : List (List ℕ)) × ScriptEnds (MayAnswer None f k) (stop_ending (of_script s)) ls ts w × ShortTally (stop_ending (of_script s)) w before now ts) → ReplayScript k (stop_ending (of_script s)) ls before now w
+  script_short (scripts.Unread x) (ts, h, t) = (ts, ends_by (MayAnswer None f k) (IsReplayed k) (replayed f k) (stop_ending (of_script (scripts.Unread x))) ls ts w h, t.rose)
+  script_short scripts.Failed (ts, h, t) = (ts, ends_by (MayAnswer None f k) (IsReplayed k) (replayed f k) failed ls ts w h, t.rose, λ low few. absurd (few (t.more refl low)))
 
-  pub script_answered : ((ts : List (List ℕ)) × ScriptEnds (MayAnswer f k) done ls ts w × Tally came.Answered before now ts) → ReplayScript k done ls before now w
+  pub script_answered : ((ts : List (List ℕ)) × ScriptEnds (MayAnswer None f k) done ls ts w × Tally came.Answered before now ts) → ReplayScript k done ls before now w
   script_answered (ts, h, t) =
-      let put = ends_by (MayAnswer f k) (IsReplayed k) (replayed f k) done ls ts w h in
+      let put = ends_by (MayAnswer None f k) (IsReplayed k) (replayed f k) done ls ts w h in
       (ts, (put.0, (plain_each k (readable_lines ls) ts (t.clean (λ e. cc e)) put.1.0, put.1.1)))
 
-  pub script_read : ((ts : List (List ℕ)) × ScriptEnds (MayAnswer f k) done ls ts w × Tally came.Read before now ts) → ReplayScript k failed ls before now w
+  pub script_read : ((ts : List (List ℕ)) × ScriptEnds (MayAnswer None f k) done ls ts w × Tally came.Read before now ts) → ReplayScript k failed ls before now w
   script_read (ts, h, t) =
-      let put = ends_by (MayAnswer f k) (IsReplayed k) (replayed f k) done ls ts w h in
+      let put = ends_by (MayAnswer None f k) (IsReplayed k) (replayed f k) done ls ts w h in
       let all : AnswersFirst (IsReplayed k) (readable_lines ls) ts =
       subst (λ x. OneEach (IsReplayed k) x ts) (sym (take_all (length ts) (readable_lines ls) (let e = length-one_each (IsReplayed k) (readable_lines ls) ts put.1.0 in omega (arith, e)))) put.1.0 in
       (ts, ((all, grew_begun w.old (put_of ts) w.new put.1.1), λ low. put.1.1), t.rose, λ low few. put)
 
-  pub script_changed : ((ts : List (List ℕ)) × ScriptEnds (MayAnswer f k) done ls ts w × Tally came.Changed before now ts) → ⊥
+  pub script_changed : ((ts : List (List ℕ)) × ScriptEnds (MayAnswer None f k) done ls ts w × Tally came.Changed before now ts) → ⊥
   script_changed (ts, h, t) = t.unchanged refl
 
 -- ---- what is answered over

@@ -36,6 +36,8 @@ use Rattle.cs_top.specs.declared.sources.SourceFault.{SourceFault}
 use Rattle.cs_top.specs.declared.sources.SourceFault.TheVariants as sources
 use Rattle.cs_top.specs.declared.words.Form.{Form}
 use Rattle.cs_top.specs.declared.words.Form.TheVariants as forms
+use Rattle.cs_top.specs.declared.words.HitForm.{HitForm}
+use Rattle.cs_top.specs.declared.words.HitForm.TheVariants.{Titled}
 use Rattle.cs_top.proofs.PutTextLemmas.{nothing_put}
 
 -- a refusal that is made of another one has its form
@@ -173,25 +175,25 @@ module _ (P : Ending → Type 0) where
   merged_by a b (stops.Script f) is why memory = absurd is
 
   -- of a result that is a script's stop
-  pub short_by : (w : Wrote) (r : Result Came ScriptStop) (x : ScriptStop) (s : RunStop) → ((f : ScriptFault) → EndsBy (script_refused f) w → P (script_refused f)) → (EndsBy failed w → P failed)
-      → r ≡ Err x → IfErr r (λ y. EndsBy (stop_ending (of_script y)) w) → s ≡ of_script x → P (stop_ending s)
-  short_by w r x s line fault is ends from =
-      subst (λ y. P (stop_ending y)) (sym from) (script_by x (subst (λ z. IfErr z (λ y. EndsBy (stop_ending (of_script y)) w)) is ends))
+  pub short_by : (form : HitForm) (w : Wrote) (r : Result Came ScriptStop) (x : ScriptStop) (s : RunStop) → ((f : ScriptFault) → EndsBy form (script_refused f) w → P (script_refused f)) → (EndsBy form failed w → P failed)
+      → r ≡ Err x → IfErr r (λ y. EndsBy form (stop_ending (of_script y)) w) → s ≡ of_script x → P (stop_ending s)
+  short_by form w r x s line fault is ends from =
+      subst (λ y. P (stop_ending y)) (sym from) (script_by x (subst (λ z. IfErr z (λ y. EndsBy form (stop_ending (of_script y)) w)) is ends))
     where
-      script_by : (x : ScriptStop) → EndsBy (stop_ending (of_script x)) w → P (stop_ending (of_script x))
+      script_by : (x : ScriptStop) → EndsBy form (stop_ending (of_script x)) w → P (stop_ending (of_script x))
       script_by (scripts.Unread f) e = line (fault_seen f) e
       script_by scripts.Failed e = fault e
 
 -- ---- over any files, where nothing was put
 module _ (a s : List ℕ) (w : Wrote) (x : RunStop) (same : w.new ≡ w.old) where
-  pub ask_absent : (name : List ℕ) → IsAbsence x name → (name ≡ a) ⊎ (name ≡ s) → AskEnds (stop_ending x) a s w
-  ask_absent name is one = absence_by (λ e. AskEnds e a s w) x name is (one, same) (nothing_put w same)
+  pub ask_absent : (form : HitForm) (name : List ℕ) → IsAbsence x name → (name ≡ a) ⊎ (name ≡ s) → AskEnds form (stop_ending x) a s w
+  ask_absent form name is one = absence_by (λ e. AskEnds form e a s w) x name is (one, same) (nothing_put form w same)
 
-  pub ask_refused : IsOfSource forms.Collection x → AskEnds (stop_ending x) a s w
-  ask_refused is = source_by (λ e. AskEnds e a s w) forms.Collection x is (λ r has. (has, same)) (nothing_put w same) same
+  pub ask_refused : (form : HitForm) → IsOfSource forms.Collection x → AskEnds form (stop_ending x) a s w
+  ask_refused form is = source_by (λ e. AskEnds form e a s w) forms.Collection x is (λ r has. (has, same)) (nothing_put form w same) same
 
   pub replay_absent : (name : List ℕ) → IsAbsence x name → (name ≡ a) ⊎ (name ≡ s) → ReplayEnds (stop_ending x) a s w
-  replay_absent name is one = absence_by (λ e. ReplayEnds e a s w) x name is (one, same) (nothing_put w same)
+  replay_absent name is one = absence_by (λ e. ReplayEnds e a s w) x name is (one, same) (nothing_put Titled w same)
 
   pub replay_damaged : IsOfIndex x → ReplayEnds (stop_ending x) a s w
-  replay_damaged is = index_by (λ e. ReplayEnds e a s w) x is (λ rule at. same) (nothing_put w same) same
+  replay_damaged is = index_by (λ e. ReplayEnds e a s w) x is (λ rule at. same) (nothing_put Titled w same) same

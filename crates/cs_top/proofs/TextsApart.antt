@@ -1,6 +1,6 @@
 -- That no text of a line is another one's.
 --
---   memory_apart, reply_apart, refusal_apart     the texts of want of memory, of a reply and of a refusal are others than that of a failed
+--   memory_apart, replied_apart, refusal_apart   the texts of want of memory, of a reply and of a refusal are others than that of a failed
 --                                                read
 --   own_unread, changed_unread                   so are all own texts, and those of a changed index file
 --   own_unchanged                                no own text is that of a changed index file
@@ -13,7 +13,11 @@ use Rattle.cs_model.specs.Outputs.{IsChangedText, memory_text, read_text}
 use Rattle.cs_model.specs.Parameters.{RequestRefusal, bad_param, bad_query, refusal_text}
 use Rattle.cs_model.specs.Refusals.{Bad, Limit}
 use Rattle.cs_model.specs.Replies.{Reply, reply_text}
+use Rattle.cs_model_excerpts.specs.ExcerptReplies.{excerpted_text}
+use Rattle.cs_top.specs.HitForms.{IsReplyIn}
 use Rattle.cs_top.specs.PutTexts.{IsOwnText}
+use Rattle.cs_top.specs.declared.words.HitForm.{HitForm}
+use Rattle.cs_top.specs.declared.words.HitForm.TheVariants.{Titled, Excerpted}
 
 -- two texts that are told apart by a number of each
 apart : (f : List ℕ → ℕ) (t u : List ℕ) (a b : ℕ) → f t ≡ a → f u ≡ b → a ≢ b → t ≢ u
@@ -34,6 +38,14 @@ memory_bytes = (refl, refl)
 reply_byte : (r : Reply) → byte 2 (reply_text r) ≡ 99
 unfolding reply_text serde_json_on_literals
 reply_byte r = refl
+
+excerpted_byte : (r : Reply) (xs : List (List ℕ)) → byte 2 (excerpted_text r xs) ≡ 99
+unfolding excerpted_text serde_json_on_literals
+excerpted_byte r xs = refl
+
+replied_byte : (form : HitForm) (t : List ℕ) → IsReplyIn form t → byte 2 t ≡ 99
+replied_byte Titled t (r, is) = ap (byte 2) is ∙ reply_byte r
+replied_byte Excerpted t (r, xs, each, is) = ap (byte 2) is ∙ excerpted_byte r xs
 
 bad_byte : (at : ℕ) → byte 2 (bad_text at) ≡ 97
 unfolding bad_text serde_json_on_literals
@@ -96,18 +108,18 @@ changed_word rule at = ap (byte 9) (behind_decimal _ at)
 pub memory_apart : memory_text ≢ read_text
 memory_apart = apart (byte 10) _ _ 109 114 memory_bytes.1 read_bytes.1 (λ e. omega (arith, e))
 
-pub reply_apart : (r : Reply) → reply_text r ≢ read_text
-reply_apart r = apart (byte 2) _ _ 99 101 (reply_byte r) read_bytes.0 (λ e. omega (arith, e))
+pub replied_apart : (form : HitForm) (t : List ℕ) → IsReplyIn form t → t ≢ read_text
+replied_apart form t h = apart (byte 2) _ _ 99 101 (replied_byte form t h) read_bytes.0 (λ e. omega (arith, e))
 
 pub refusal_apart : (r : RequestRefusal) → refusal_text r ≢ read_text
 refusal_apart (bad_param name) = apart (byte 10) _ _ 112 114 (param_bytes name).1 read_bytes.1 (λ e. omega (arith, e))
 refusal_apart (bad_query at Bad) = apart (byte 2) _ _ 97 101 (bad_byte at) read_bytes.0 (λ e. omega (arith, e))
 refusal_apart (bad_query at (Limit which)) = apart (byte 2) _ _ 97 101 (limit_byte at (limit_word which)) read_bytes.0 (λ e. omega (arith, e))
 
-pub own_unread : (t : List ℕ) → IsOwnText t → t ≢ read_text
-own_unread t (inl (r, is)) e = reply_apart r (sym is ∙ e)
-own_unread t (inr (inl (r, is))) e = refusal_apart r (sym is ∙ e)
-own_unread t (inr (inr is)) e = memory_apart (sym is ∙ e)
+pub own_unread : (form : HitForm) (t : List ℕ) → IsOwnText form t → t ≢ read_text
+own_unread form t (inl h) e = replied_apart form t h e
+own_unread form t (inr (inl (r, is))) e = refusal_apart r (sym is ∙ e)
+own_unread form t (inr (inr is)) e = memory_apart (sym is ∙ e)
 
 pub changed_unread : (t : List ℕ) → IsChangedText t → t ≢ read_text
 changed_unread t (rule, at, is) e = apart (byte 2) _ _ 97 101 (changed_byte rule at) read_bytes.0 (λ e. omega (arith, e)) (sym is ∙ e)
@@ -118,7 +130,7 @@ refusal_unchanged (bad_param name) rule at = apart (byte 2) _ _ 101 97 (param_by
 refusal_unchanged (bad_query place Bad) rule at = apart word _ _ 98 99 (bad_word place) (changed_word rule at) (λ e. omega (arith, e))
 refusal_unchanged (bad_query place (Limit which)) rule at = apart word _ _ 108 99 (limited_word place (limit_word which)) (changed_word rule at) (λ e. omega (arith, e))
 
-pub own_unchanged : (t : List ℕ) → IsOwnText t → ¬ IsChangedText t
-own_unchanged t (inl (r, is)) (rule, at, e) = apart (byte 2) _ _ 99 97 (reply_byte r) (changed_byte rule at) (λ e. omega (arith, e)) (sym is ∙ e)
-own_unchanged t (inr (inl (r, is))) (rule, at, e) = refusal_unchanged r rule at (sym is ∙ e)
-own_unchanged t (inr (inr is)) (rule, at, e) = apart (byte 2) _ _ 101 97 memory_bytes.0 (changed_byte rule at) (λ e. omega (arith, e)) (sym is ∙ e)
+pub own_unchanged : (form : HitForm) (t : List ℕ) → IsOwnText form t → ¬ IsChangedText t
+own_unchanged form t (inl h) (rule, at, e) = apart (byte 2) _ _ 99 97 (replied_byte form t h) (changed_byte rule at) (λ e. omega (arith, e)) e
+own_unchanged form t (inr (inl (r, is))) (rule, at, e) = refusal_unchanged r rule at (sym is ∙ e)
+own_unchanged form t (inr (inr is)) (rule, at, e) = apart (byte 2) _ _ 101 97 memory_bytes.0 (changed_byte rule at) (λ e. omega (arith, e)) (sym is ∙ e)

@@ -9,8 +9,10 @@
 --   ok_then                  what follows of a value that is there
 --   told_is                  counts as the lines of a summary
 --   summed                   the text of the summary
+--   unrefused, unsaid        a fault of an accepted collection names no refusal, and so no words
 use Rattle.std.proofs.Common.{◌≡◌, ℕ, ◌+◌, ◌^◌, ◌<◌, ◌≤◌, Bool, List, [], ◌∷◌, ◌++◌, length, take, map, get_or, refl, sym, ◌∙◌, ap, subst, arith, add-one, add-zero}
-use Rattle.std.specs.Prelude.{filter, sum, Result, Ok, Err, IfOk}
+use Rattle.std.specs.Prelude.{filter, sum, Result, Ok, Err, IfOk, MatchOption, Option, Some, None}
+use Rattle.std.specs.Option.{option_map}
 use Rattle.std.specs.List.{flat_map}
 use Rattle.std.specs.FinMap as fin
 use Rattle.std.proofs.Math.Seq.{take-suc}
@@ -25,7 +27,10 @@ use Rattle.cs_engine.specs.Keeping.{AreGood, EngineView, IsAfter, KeepsAnswers}
 use Rattle.cs_engine.specs.declared.note.Note.{Note}
 use Rattle.cs_file.specs.Indexes.{StandsFor}
 use Rattle.cs_model.specs.Answers.{hits, parts_of}
-use Rattle.cs_model.specs.Corpus.{Corpus}
+use Rattle.cs_docs.specs.FaultRefusals.{reason_text}
+use Rattle.cs_docs.specs.declared.fault.Reason.{Reason}
+use Rattle.cs_model.specs.Collection.{CollectionRefusal, refusal_words}
+use Rattle.cs_model.specs.Corpus.{Corpus, refusal}
 use Rattle.cs_model.specs.Keys.{keys_of}
 use Rattle.cs_model.specs.Replies.{Reply}
 use Rattle.cs_model.specs.Requests.{Request, reply_of}
@@ -41,7 +46,9 @@ use Rattle.cs_model_trial.specs.Summary.{IsSummary, counted, counts, hits_found,
 use Rattle.cs_model_trial.proofs.TrialExamples.{texts-count}
 use Rattle.cs_query.specs.RequestView.{asked}
 use Rattle.cs_query.specs.declared.request.Request.{Request as Read}
-use Rattle.cs_top.specs.Trial.{AddUp, AreFew, HasAsked, HasSizes, kept_after, sizes_of, with_reply}
+use Rattle.cs_top.specs.declared.collection.CollectionFault.{CollectionFault}
+use Rattle.cs_top.specs.Views.{IsCollectionCause, collection_refusal_of}
+use Rattle.cs_top.specs.Trial.{AddUp, AreFew, HasAsked, HasSizes, kept_after, sizes_of, with_one_reply}
 use Rattle.cs_trial.specs.Told.{told}
 use Rattle.cs_trial.specs.declared.counts.Counts.{Counts}
 
@@ -55,7 +62,7 @@ record IsOneMore (p : Plan) (n : ℕ) (c d : Counts) : Type 0 where
   extend : d.extend ≡ c.extend + counted is_extend (p ∷ [])
   fresh : d.fresh ≡ c.fresh + counted is_fresh (p ∷ [])
 
-one_more : (p : Plan) (n : ℕ) (c : Counts) → IsOneMore p n c (with_reply p n c)
+one_more : (p : Plan) (n : ℕ) (c : Counts) → IsOneMore p n c (with_one_reply p n c)
 one_more Same n c = record { replies = refl; hits = refl; same = refl; narrow = sym (add-zero c.narrow); extend = sym (add-zero c.extend); fresh = sym (add-zero c.fresh) }
 one_more (Narrow cut) n c = record { replies = refl; hits = refl; same = sym (add-zero c.same); narrow = refl; extend = sym (add-zero c.extend); fresh = sym (add-zero c.fresh) }
 one_more Extend n c = record { replies = refl; hits = refl; same = sym (add-zero c.same); narrow = sym (add-zero c.narrow); extend = refl; fresh = sym (add-zero c.fresh) }
@@ -97,8 +104,8 @@ module _ (k : Corpus) where
       fresh = more.fresh ∙ ap (λ n. n + counted is_fresh (p ∷ [])) a.fresh ∙ sym (counted_push is_fresh);
     }
 
-  add_more : (qs : List Query) (q : Query) (p : Plan) (c : Counts) → p ≡ plan (kept_after k [] qs) q → AddUp k qs c → AddUp k (qs ++ q ∷ []) (with_reply p (length (hits k (parts_of k q))) c)
-  add_more qs q p c is a = added qs q p is c (with_reply p (length (hits k (parts_of k q))) c) (one_more p (length (hits k (parts_of k q))) c) a
+  add_more : (qs : List Query) (q : Query) (p : Plan) (c : Counts) → p ≡ plan (kept_after k [] qs) q → AddUp k qs c → AddUp k (qs ++ q ∷ []) (with_one_reply p (length (hits k (parts_of k q))) c)
+  add_more qs q p c is a = added qs q p is c (with_one_reply p (length (hits k (parts_of k q))) c) (one_more p (length (hits k (parts_of k q))) c) a
 
 -- ---- how an engine stands
 none_added : (k : Corpus) (c : Counts) → AreFew 0 c → AddUp k [] c
@@ -131,13 +138,13 @@ module _ (b : List ℕ) (qs : List Query) (q : Query) (old new : EngineView) (r 
       ∙ sym (kept_push k [] qs q)
 
   -- after one query more
-  pub asked_more : new.index ≡ old.index → AreGood b new → IsAfter b q old (Ok r) new → r.0.total_hits ≡ length (hits (file_corpus b) (parts_of (file_corpus b) q)) → HasAsked b (qs ++ q ∷ []) new (with_reply r.1.plan r.0.total_hits c)
+  pub asked_more : new.index ≡ old.index → AreGood b new → IsAfter b q old (Ok r) new → r.0.total_hits ≡ length (hits (file_corpus b) (parts_of (file_corpus b) q)) → HasAsked b (qs ++ q ∷ []) new (with_one_reply r.1.plan r.0.total_hits c)
   asked_more same good is total = record {
     stands = subst (StandsFor b) (sym same) h.stands;
     good = good;
     room = keeps.0 ∙ h.room;
     kept = left is;
-    counts = subst (λ n. AddUp (file_corpus b) (qs ++ q ∷ []) (with_reply r.1.plan n c)) (sym total) (add_more (file_corpus b) qs q r.1.plan c plan_is h.counts);
+    counts = subst (λ n. AddUp (file_corpus b) (qs ++ q ∷ []) (with_one_reply r.1.plan n c)) (sym total) (add_more (file_corpus b) qs q r.1.plan c plan_is h.counts);
   }
 
 pub hits_told : (k : Corpus) (r : Request) → (reply_of k r).total_hits ≡ length (hits k (parts_of k r.query))
@@ -179,3 +186,16 @@ told_is n k c documents rows blocks sizes has a =
 pub summed : (n : ℕ) (i : Image) (c : Counts) (t : List ℕ) → IsImage (trial_corpus n) TARGET USUAL_WEIGHTS i → told c ≡ counts n (trial_corpus n) (length i.heads) → t ≡ flat_map summary_line (told c) → IsSummary n t
 unfolding summary
 summed n i c t is same text = record { image = i; indexed = is; told = text ∙ ap (flat_map summary_line) same }
+
+-- ---- a collection that is accepted
+by_cause : (x y : Option CollectionRefusal) → y ≡ None → MatchOption x (Unit {0}) (λ r. y ≡ Some r) → x ≡ None
+by_cause None y none h = refl
+by_cause (Some r) y none h = absurd (let wrong : None ≡ Some r = sym none ∙ h in cc)
+
+pub unrefused : (b : List ℕ) (f : CollectionFault) → refusal b ≡ None → IsCollectionCause b f → collection_refusal_of f ≡ None
+unrefused b f none h = by_cause (collection_refusal_of f) (refusal b) none h
+
+pub unsaid : (f : CollectionFault) (r : Reason) (said : Option Reason) → collection_refusal_of f ≡ None
+    → option_map reason_text said ≡ option_map refusal_words (collection_refusal_of f) → said ≡ Some r → ⊥
+unsaid f r said none words is =
+    absurd (let wrong : Some (reason_text r) ≡ None = ap (option_map reason_text) (sym is) ∙ words ∙ ap (option_map refusal_words) none in cc)

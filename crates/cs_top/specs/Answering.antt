@@ -7,7 +7,7 @@
 --   StaysOver e e' f f' h h'    what a corpus is answered over is so still, with the same index, file and files
 --   IsReplayed k l t           t may be put for the line over an index file: its text, the memory text, or in a reply's place that of a
 --                              failed read
---   MayAnswer f k              what may be put for a line over this file
+--   MayAnswer docs f k         what may be put for a line over this file, with these documents at hand for excerpts
 --   Came                       what came of the lines so far: only answers, or a failed read or a change too
 --   worst a b                  what came of some lines and of more
 --   CameCounts came before now     a count of failures rose where a failed read came, and else stayed
@@ -16,7 +16,7 @@
 --   came_of_answer a           what comes of a line by what is put for it
 --   line_bytes a               what is put for it, with its line ending
 --   HasText A l a              what is put for a line has a text by A; no change is put
---   HasReply k r a             what is put for a request has the text of its reply, or of a failed read
+--   HasReply docs k r a        what is put for a request has the text of its reply, or of a failed read
 use Rattle.std.specs.Prelude.{◌≡◌, ◌≢◌, ◌⊎◌, ℕ, ◌≤◌, true, List, [], ◌∷◌, ◌++◌, Option, Some, None, is_some}
 use Rattle.std.specs.Option.{option_or}
 use Rattle.cs_base.specs.outside.Causes.{Rose}
@@ -26,9 +26,9 @@ use Rattle.cs_file.specs.Indexes.{IndexView, HasAllBlocks, StandsFor}
 use Rattle.cs_model.specs.Corpus.{Corpus}
 use Rattle.cs_model.specs.Outputs.{MayPut, IsAnswer, memory_text, read_text}
 use Rattle.cs_model.specs.Parameters.{request_refusal}
-use Rattle.cs_model.specs.Replies.{reply_text}
 use Rattle.cs_model.specs.Requests.{Request, reply_of}
 use Rattle.cs_model_index.specs.Sections.{file_corpus}
+use Rattle.cs_top.specs.HitForms.{AtHand, MayShow, shown_reply}
 use Rattle.cs_top.specs.Met.{HasToldSize}
 use Rattle.cs_top.specs.declared.script.Came.{Came}
 use Rattle.cs_top.specs.declared.script.Came.TheVariants.{Answered, Read, Changed}
@@ -66,9 +66,9 @@ pub record StaysOver (e e' : EngineView) (f f' : FileView) (held held' : Option 
 abbrev pub IsReplayed : Corpus → MayPut
 IsReplayed k l t = IsAnswer k l t ⊎ ((request_refusal l ≡ None) × (t ≡ read_text))
 
--- a file that was made in memory is never read in vain
-abbrev pub MayAnswer : FileView → Corpus → MayPut
-MayAnswer f k l t = IsAnswer k l t ⊎ ((f.made ≡ None) × IsReplayed k l t)
+-- an answer with or without excerpts, or in a reply's place the text of a failed read; a file that was made in memory is never read in vain
+abbrev pub MayAnswer : AtHand → FileView → Corpus → MayPut
+MayAnswer docs f k l t = MayShow docs k l t ⊎ ((f.made ≡ None) × (request_refusal l ≡ None) × (t ≡ read_text))
 
 -- a failed read goes before a change, and a change before answers
 abbrev pub worst : Came → Came → Came
@@ -119,8 +119,8 @@ HasText A l answers.Read = A l read_text
 HasText A l (answers.Changed b) = ⊥
 
 -- the text of the reply, want of memory or a failed read
-abbrev pub HasReply : Corpus → Request → Answer → Type 0
-HasReply k r (answers.Text b) = b.items ≡ reply_text (reply_of k r) ++ 10 ∷ []
-HasReply k r answers.Memory = Unit {0}
-HasReply k r answers.Read = Unit {0}
-HasReply k r (answers.Changed b) = ⊥
+abbrev pub HasReply : AtHand → Corpus → Request → Answer → Type 0
+HasReply docs k r (answers.Text b) = b.items ≡ shown_reply docs r.query (reply_of k r) ++ 10 ∷ []
+HasReply docs k r answers.Memory = Unit {0}
+HasReply docs k r answers.Read = Unit {0}
+HasReply docs k r (answers.Changed b) = ⊥

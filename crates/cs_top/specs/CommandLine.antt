@@ -15,7 +15,7 @@
 --   Caused e ..                              the same for the counts of files and of out: one of the two rose
 --
 -- The table: build COLLECTION INDEX, ask COLLECTION SCRIPT, replay INDEX SCRIPT, serve INDEX PORT CONNS, trial N, upgrade INDEX NEW,
--- import csv SOURCE INDEX, import jsonl SOURCE INDEX, merge INDEX1 INDEX2 NEW.
+-- import csv SOURCE INDEX, import jsonl SOURCE INDEX, excerpts COLLECTION SCRIPT, merge INDEX1 INDEX2 NEW.
 use Rattle.std.specs.Prelude.{ℕ, Bool, ◌&&◌, nat_le, nat_lt, if◌then◌else◌, List, [], ◌∷◌, Option, Some, None, codes, ◌≡◌, ◌⊎◌, ◌≤◌, ◌++◌}
 use Rattle.std.specs.Str.{bytes_eq}
 use Rattle.cs_model.specs.Digits.{has_digits, number_of}
@@ -29,11 +29,14 @@ use Rattle.cs_top.specs.Import.{Refusal, refused_words}
 use Rattle.cs_top.specs.Met.{Wrote}
 use Rattle.cs_top.specs.declared.words.Form.{Form}
 use Rattle.cs_top.specs.declared.words.Form.TheVariants as forms
+use Rattle.cs_top.specs.declared.words.HitForm.{HitForm}
+use Rattle.cs_top.specs.declared.words.HitForm.TheVariants.{Titled, Excerpted}
 
--- what the words ask for, with the words behind the command's name; `import` builds from a source of another form than a collection
+-- what the words ask for, with the words behind the command's name; `import` builds from a source of another form than a collection, and
+-- `excerpts` asks with hits of another form than titled ones
 pub data Command : Type 0 where
   build : Form → List ℕ → List ℕ → Command
-  ask : List ℕ → List ℕ → Command
+  ask : HitForm → List ℕ → List ℕ → Command
   replay : List ℕ → List ℕ → Command
   serve : List ℕ → List ℕ → List ℕ → Command
   trial : List ℕ → Command
@@ -52,9 +55,10 @@ some_if b c = if b then Some c else None
 abbrev pub two_words : List ℕ → List ℕ → List ℕ → Option Command
 two_words c a b =
     if bytes_eq c (codes "build") then Some (build forms.Collection a b)
-    else (if bytes_eq c (codes "ask") then Some (ask a b)
+    else (if bytes_eq c (codes "ask") then Some (ask Titled a b)
     else (if bytes_eq c (codes "replay") then Some (replay a b)
-    else some_if (bytes_eq c (codes "upgrade")) (upgrade a b)))
+    else (if bytes_eq c (codes "upgrade") then Some (upgrade a b)
+    else some_if (bytes_eq c (codes "excerpts")) (ask Excerpted a b))))
 
 -- `trial` with a number from 1 to `MAX_TRIAL`
 abbrev pub trial_words : List ℕ → List ℕ → Option Command
@@ -112,7 +116,7 @@ status (merge_refused r) = 10
 -- the line on standard error, with its ending; no bytes where all was done
 abbrev pub line_of : Ending → List ℕ
 line_of done = []
-line_of usage = codes "usage: complete build COLLECTION INDEX | ask COLLECTION SCRIPT | replay INDEX SCRIPT | serve INDEX PORT CONNS | trial N | upgrade INDEX NEW | import csv SOURCE INDEX | import jsonl SOURCE INDEX | merge INDEX1 INDEX2 NEW\n"
+line_of usage = codes "usage: complete build COLLECTION INDEX | ask COLLECTION SCRIPT | replay INDEX SCRIPT | serve INDEX PORT CONNS | trial N | upgrade INDEX NEW | import csv SOURCE INDEX | import jsonl SOURCE INDEX | excerpts COLLECTION SCRIPT | merge INDEX1 INDEX2 NEW\n"
 line_of (refused r) = codes "collection: " ++ (refused_words r ++ 10 ∷ [])
 line_of (damaged rule at) = codes "index: rule " ++ (decimal rule ++ (codes " at " ++ (decimal at ++ 10 ∷ [])))
 line_of (absent name) = codes "absent: " ++ name ++ 10 ∷ []

@@ -28,7 +28,7 @@ pub record Idle {H : Type 0} (x e : Ending) (m : Met H) : Type 0 where
 abbrev pub Ran : {H : Type 0} → Ending → Option Command → Met H → Type 0
 Ran e None m = Idle usage e m
 Ran e (Some (build form c i)) m = BuildRan form e c i m
-Ran e (Some (ask c s)) m = AskRan e c s m
+Ran e (Some (ask form c s)) m = AskRan form e c s m
 Ran e (Some (replay i s)) m = ReplayRan e i s m
 Ran e (Some (serve i p n)) m = ServeRan e i p n m
 Ran e (Some (trial n)) m = TrialRan e n m
@@ -38,7 +38,7 @@ Ran e (Some (merge a b n)) m = MergeRan e a b n m
 -- files from which a command can do all; `trial` needs none
 abbrev pub IsAble : Option Command → Held → Type 0
 IsAble (Some (build form c i)) h = CanBuild form h c
-IsAble (Some (ask c s)) h = CanAsk h c s
+IsAble (Some (ask form c s)) h = CanAsk h c s
 IsAble (Some (replay i s)) h = CanReplay h i s
 IsAble (Some (serve i p n)) h = CanServe h i
 IsAble (Some (trial n)) h = Unit {0}

@@ -3,6 +3,7 @@ pub mod Build
 pub mod CommandLine
 pub mod CommandRuns
 pub mod Filed
+pub mod HitForms
 pub mod Import
 pub mod Merge
 pub mod Met

@@ -1,17 +1,17 @@
--- Which texts are put for the lines of a script over any files, whatever they hold.
+-- Which texts are put for the lines of a script over any files, whatever they hold, by the form in which hits are shown.
 --
 -- Source: this engine's own.
 --
---   IsOwnText t              the text of a reply, of a refusal or of want of memory
---   IsLineText t             the same, or that of a failed read or of a changed index file
---   TextBy came t            the text of a line, by what came of it
---   TextsBy came ts          the texts of some lines, by what came of them
---   HasTextBy a              what is put for a line has a text by what comes of it
---   IsChangeLine i told a    the text of a change names a rule that bytes of the index file break, and its place
---   PutsLine came old new    nothing was put for a line without bytes, or a text by what came of it
---   CutsLine e w             the script ends so at a line, before its text was put whole
---   PutsTexts came old new   texts were put for some lines, by what came of them
---   EndsBy e w               a script may end so, by the texts that were put
+--   IsOwnText form t              the text of a reply, of a refusal or of want of memory
+--   IsLineText form t             the same, or that of a failed read or of a changed index file
+--   TextBy form came t            the text of a line, by what came of it
+--   TextsBy form came ts          the texts of some lines, by what came of them
+--   HasTextBy form a              what is put for a line has a text by what comes of it
+--   IsChangeLine i told a         the text of a change names a rule that bytes of the index file break, and its place
+--   PutsLine form came old new    nothing was put for a line without bytes, or a text by what came of it
+--   CutsLine form e w             the script ends so at a line, before its text was put whole
+--   PutsTexts form came old new   texts were put for some lines, by what came of them
+--   EndsBy form e w               a script may end so, by the texts that were put
 use Rattle.std.specs.Prelude.{◌≡◌, ◌≢◌, ◌⊎◌, ℕ, List, [], ◌∷◌, ◌++◌, All, Contains, Option, Some}
 use Rattle.cs_base.specs.outside.Causes.{Rose}
 use Rattle.cs_base.specs.outside.Outside.{Grew, GrewByPrefix}
@@ -20,40 +20,41 @@ use Rattle.cs_file.specs.Indexes.{IndexView}
 use Rattle.cs_model.specs.Faults.{changed_text}
 use Rattle.cs_model.specs.Outputs.{IsChangedText, memory_text, put_of, read_text}
 use Rattle.cs_model.specs.Parameters.{RequestRefusal, refusal_text}
-use Rattle.cs_model.specs.Replies.{Reply, reply_text}
 use Rattle.cs_top.specs.Answering.{came_of_answer, line_bytes}
 use Rattle.cs_top.specs.CommandLine.{Ending, done, failed, script_refused, changed}
+use Rattle.cs_top.specs.HitForms.{IsReplyIn}
 use Rattle.cs_top.specs.Met.{Wrote}
+use Rattle.cs_top.specs.declared.words.HitForm.{HitForm}
 use Rattle.cs_top.specs.declared.script.Came.{Came}
 use Rattle.cs_top.specs.declared.script.Came.TheVariants.{Answered, Read, Changed}
 use Rattle.cs_top.specs.declared.script.answers.Answer.{Answer}
 use Rattle.cs_top.specs.declared.script.answers.Answer.TheVariants as answers
 
 -- the text of some reply, of some refusal, or of want of memory
-abbrev pub IsOwnText : List ℕ → Type 0
-IsOwnText t = ((r : Reply) × (t ≡ reply_text r)) ⊎ (((r : RequestRefusal) × (t ≡ refusal_text r)) ⊎ (t ≡ memory_text))
+abbrev pub IsOwnText : HitForm → List ℕ → Type 0
+IsOwnText form t = IsReplyIn form t ⊎ (((r : RequestRefusal) × (t ≡ refusal_text r)) ⊎ (t ≡ memory_text))
 
 -- such a text, that of a failed read, or that of a changed index file
-abbrev pub IsLineText : List ℕ → Type 0
-IsLineText t = IsOwnText t ⊎ ((t ≡ read_text) ⊎ IsChangedText t)
+abbrev pub IsLineText : HitForm → List ℕ → Type 0
+IsLineText form t = IsOwnText form t ⊎ ((t ≡ read_text) ⊎ IsChangedText t)
 
 -- a change has the text of want of memory where there is no memory for its own
-abbrev pub TextBy : Came → List ℕ → Type 0
-TextBy Answered t = IsOwnText t
-TextBy Read t = t ≡ read_text
-TextBy Changed t = IsChangedText t ⊎ (t ≡ memory_text)
+abbrev pub TextBy : HitForm → Came → List ℕ → Type 0
+TextBy form Answered t = IsOwnText form t
+TextBy form Read t = t ≡ read_text
+TextBy form Changed t = IsChangedText t ⊎ (t ≡ memory_text)
 
 -- Where no failed read came none of them has the text of one, and where each line was answered none has that of a changed index file;
 -- where a change came some one has the text of a change.
-pub record TextsBy (came : Came) (ts : List (List ℕ)) : Type 0 where
-  pub each : All IsLineText ts
+pub record TextsBy (form : HitForm) (came : Came) (ts : List (List ℕ)) : Type 0 where
+  pub each : All (IsLineText form) ts
   pub unread : came ≢ Read → All (λ t. t ≢ read_text) ts
   pub unchanged : came ≡ Answered → All (λ t. ¬ IsChangedText t) ts
   pub changed : came ≡ Changed → (t : List ℕ) × Contains ts t × (IsChangedText t ⊎ (t ≡ memory_text))
 
 -- the text stands before the line ending
-abbrev pub HasTextBy : Answer → Type 0
-HasTextBy a = (t : List ℕ) × (line_bytes a ≡ t ++ 10 ∷ []) × TextBy (came_of_answer a) t
+abbrev pub HasTextBy : HitForm → Answer → Type 0
+HasTextBy form a = (t : List ℕ) × (line_bytes a ≡ t ++ 10 ∷ []) × TextBy form (came_of_answer a) t
 
 -- of a file that tells, these are its bytes; without memory for that text, and of other answers, nothing is said
 abbrev pub IsChangeLine : IndexView → Option (List ℕ) → Answer → Type 0
@@ -61,24 +62,24 @@ IsChangeLine i told (answers.Changed (Some b)) = (rule : ℕ) × (at : ℕ) × B
 IsChangeLine i told a = Unit {0}
 
 -- a line without bytes counts as answered
-abbrev pub PutsLine : Came → Option (List ℕ) → Option (List ℕ) → Type 0
-PutsLine came old new = ((came ≡ Answered) × (new ≡ old)) ⊎ ((t : List ℕ) × TextBy came t × Grew old (t ++ 10 ∷ []) new)
+abbrev pub PutsLine : HitForm → Came → Option (List ℕ) → Option (List ℕ) → Type 0
+PutsLine form came old new = ((came ≡ Answered) × (new ≡ old)) ⊎ ((t : List ℕ) × TextBy form came t × Grew old (t ++ 10 ∷ []) new)
 
 -- at a refused line nothing is put; nor where the files failed, and where out did some first bytes of a text
-abbrev pub CutsLine : Ending → Wrote → Type 0
-CutsLine (script_refused f) w = w.new ≡ w.old
-CutsLine failed w = (w.new ≡ w.old) ⊎ (Rose w.before w.now × ((came : Came) × (t : List ℕ) × TextBy came t × GrewByPrefix w.old (t ++ 10 ∷ []) w.new))
-CutsLine e w = ⊥
+abbrev pub CutsLine : HitForm → Ending → Wrote → Type 0
+CutsLine form (script_refused f) w = w.new ≡ w.old
+CutsLine form failed w = (w.new ≡ w.old) ⊎ (Rose w.before w.now × ((came : Came) × (t : List ℕ) × TextBy form came t × GrewByPrefix w.old (t ++ 10 ∷ []) w.new))
+CutsLine form e w = ⊥
 
 -- what a sink tells grew by such texts, each with its line ending; of no lines by nothing
-abbrev pub PutsTexts : Came → Option (List ℕ) → Option (List ℕ) → Type 0
-PutsTexts came old new = (ts : List (List ℕ)) × TextsBy came ts × Grew old (put_of ts) new
+abbrev pub PutsTexts : HitForm → Came → Option (List ℕ) → Option (List ℕ) → Type 0
+PutsTexts form came old new = (ts : List (List ℕ)) × TextsBy form came ts × Grew old (put_of ts) new
 
 -- Done: each line was answered. Changed: some line has the text of a change, and none that of a failed read. At a refused line and at a
 -- failure any texts may stand, the last of them maybe in part, but only where out failed. It ends in no other way.
-abbrev pub EndsBy : Ending → Wrote → Type 0
-EndsBy done w = PutsTexts Answered w.old w.new
-EndsBy changed w = PutsTexts Changed w.old w.new
-EndsBy (script_refused f) w = (ts : List (List ℕ)) × All IsLineText ts × Grew w.old (put_of ts) w.new
-EndsBy failed w = (ts : List (List ℕ)) × All IsLineText ts × GrewByPrefix w.old (put_of ts) w.new × (¬ Rose w.before w.now → Grew w.old (put_of ts) w.new)
-EndsBy e w = ⊥
+abbrev pub EndsBy : HitForm → Ending → Wrote → Type 0
+EndsBy form done w = PutsTexts form Answered w.old w.new
+EndsBy form changed w = PutsTexts form Changed w.old w.new
+EndsBy form (script_refused f) w = (ts : List (List ℕ)) × All (IsLineText form) ts × Grew w.old (put_of ts) w.new
+EndsBy form failed w = (ts : List (List ℕ)) × All (IsLineText form) ts × GrewByPrefix w.old (put_of ts) w.new × (¬ Rose w.before w.now → Grew w.old (put_of ts) w.new)
+EndsBy form e w = ⊥

@@ -1,12 +1,14 @@
--- What the two commands do that answer a script: `ask COLLECTION SCRIPT` and `replay INDEX SCRIPT`.
+-- What the commands do that answer a script: `ask COLLECTION SCRIPT`, `excerpts COLLECTION SCRIPT`, which differs by the form in which hits
+-- are shown, and `replay INDEX SCRIPT`.
 --
 --   AreHeld h a b            both files are held
 --   IsReady h c s            the same, and the collection is accepted
---   AskStops e h c s         what shows that `ask` ended so before its script
---   AskScript e h c s w      how its script ended, and what was put for it
---   AskTold e h c s w        how it ended over files that tell: before its script, with nothing put, or with its script
---   AskEnds e c s w          how it may end over any files
---   AskRan e c s m           a whole run
+--   IsAskedOver h c s docs i      the same, of an image of its corpus, and with its documents at hand or none
+--   AskStops e h c s         what shows that `ask` or `excerpts` ended so before its script
+--   AskScript form e h c s w      how its script ended, and what was put for it
+--   AskTold form e h c s w   how it ended over files that tell: before its script, with nothing put, or with its script
+--   AskEnds form e c s w     how it may end over any files
+--   AskRan form e c s m      a whole run
 --   CanAsk h c s             the script can be answered whole
 --   CanBeOpened h i s        both files are held, and the first is an index file
 --   ReplayStops e h i s      what shows that `replay` ended so before its script
@@ -21,9 +23,12 @@ use Rattle.std.specs.Prelude.{◌≡◌, ◌⊎◌, ℕ, List, Some, None, ◌+�
 use Rattle.std.specs.Option.{ForSome}
 use Rattle.std.specs.FinMap as map
 use Rattle.cs_base.specs.outside.Outside.{Held, IsHeld}
+use Rattle.cs_model.specs.Collection.{weights}
 use Rattle.cs_model.specs.Corpus.{corpus, refusal, Corpus}
 use Rattle.cs_model.specs.Outputs.{IsAnswer, script_lines, PutAll, failed_reads, readable_lines}
 use Rattle.cs_top.specs.CommandLine.{Ending, usage, refused, absent, damaged, changed, failed, no_memory, Caused, done, script_refused}
+use Rattle.cs_top.specs.HitForms.{AreDocumentsOf, AtHand, IsAnswerIn}
+use Rattle.cs_top.specs.Filed.{IsFiled}
 use Rattle.cs_top.specs.Import.{IsRefused, form_of}
 use Rattle.cs_top.specs.Met.{Met, Wrote, held_bytes}
 use Rattle.cs_top.specs.PutTexts.{EndsBy}
@@ -32,19 +37,28 @@ use Rattle.cs_base.specs.outside.Causes.{Rose}
 use Rattle.cs_hub.specs.Streams.{RoseBy}
 use Rattle.cs_model_index.specs.BlockRules.{broken_at}
 use Rattle.cs_model_index.specs.FileRules.{damage, IsIndexFile}
+use Rattle.cs_model_index.specs.Images.{Image}
 use Rattle.cs_model_index.specs.Sections.{file_corpus}
 use Rattle.cs_top.specs.Answering.{IsReplayed}
 use Rattle.cs_top.specs.declared.words.Form.TheVariants as forms
+use Rattle.cs_top.specs.declared.words.HitForm.{HitForm}
+use Rattle.cs_top.specs.declared.words.HitForm.TheVariants.{Titled}
 
 -- both files are held
 abbrev pub AreHeld : Held → List ℕ → List ℕ → Type 0
 AreHeld h a b = IsHeld (map.get h a) × IsHeld (map.get h b)
 
--- ---- `ask` over files that tell
+-- ---- `ask` and `excerpts` over files that tell
 
 -- both files are held and the collection is accepted
 abbrev pub IsReady : Held → List ℕ → List ℕ → Type 0
 IsReady h c s = AreHeld h c s × (refusal (held_bytes h c) ≡ None)
+
+-- the same, where i is an image of its corpus; and the documents at hand for excerpts are its own
+pub record IsAskedOver (h : Held) (c s : List ℕ) (docs : AtHand) (i : Image) : Type 0 where
+  pub ready : IsReady h c s
+  pub filed : IsFiled (corpus (held_bytes h c)) (weights (held_bytes h c)) i
+  pub shown : AreDocumentsOf (held_bytes h c) docs
 
 -- Before its script: the first of the two names that isn't held is said to be absent, and a refusal is that of a collection
 -- whose script is held. Both sizes are asked before any memory is taken: want of memory hides no absent file. Files may take some to
@@ -56,30 +70,30 @@ AskStops no_memory h c s = AreHeld h c s
 AskStops failed h c s = Unit {0}
 AskStops e h c s = ⊥
 
--- how its script ended, and the texts that were put, over the corpus of its collection
-abbrev pub AskScript : Ending → Held → List ℕ → List ℕ → Wrote → Type 0
-AskScript e h c s w = (ts : List (List ℕ)) × ScriptEnds (IsAnswer (corpus (held_bytes h c))) e (script_lines (held_bytes h s)) ts w
+-- how its script ended, and the texts that were put, over its collection
+abbrev pub AskScript : HitForm → Ending → Held → List ℕ → List ℕ → Wrote → Type 0
+AskScript form e h c s w = (ts : List (List ℕ)) × ScriptEnds (IsAnswerIn form (held_bytes h c)) e (script_lines (held_bytes h s)) ts w
 
 -- how it ended over files that tell: before its script, with nothing put, or with its script
-abbrev pub AskTold : Ending → Held → List ℕ → List ℕ → Wrote → Type 0
-AskTold e h c s w = (AskStops e h c s × (w.new ≡ w.old)) ⊎ (IsReady h c s × AskScript e h c s w)
+abbrev pub AskTold : HitForm → Ending → Held → List ℕ → List ℕ → Wrote → Type 0
+AskTold form e h c s w = (AskStops e h c s × (w.new ≡ w.old)) ⊎ (IsReady h c s × AskScript form e h c s w)
 
--- ---- `ask` over any files
+-- ---- `ask` and `excerpts` over any files
 -- how it may end over any files: a name that is said to be absent is one of the two, nothing is put before the script, and with its
 -- script by the texts that were put
-abbrev pub AskEnds : Ending → List ℕ → List ℕ → Wrote → Type 0
-AskEnds usage c s w = ⊥
-AskEnds (damaged rule at) c s w = ⊥
-AskEnds changed c s w = ⊥
-AskEnds (absent name) c s w = ((name ≡ c) ⊎ (name ≡ s)) × (w.new ≡ w.old)
-AskEnds (refused r) c s w = (form_of r ≡ forms.Collection) × (w.new ≡ w.old)
-AskEnds no_memory c s w = w.new ≡ w.old
-AskEnds e c s w = EndsBy e w
+abbrev pub AskEnds : HitForm → Ending → List ℕ → List ℕ → Wrote → Type 0
+AskEnds form usage c s w = ⊥
+AskEnds form (damaged rule at) c s w = ⊥
+AskEnds form changed c s w = ⊥
+AskEnds form (absent name) c s w = ((name ≡ c) ⊎ (name ≡ s)) × (w.new ≡ w.old)
+AskEnds form (refused r) c s w = (form_of r ≡ forms.Collection) × (w.new ≡ w.old)
+AskEnds form no_memory c s w = w.new ≡ w.old
+AskEnds form e c s w = EndsBy form e w
 
 -- a whole run; it changes no file, and meets no hub
-pub record AskRan {H : Type 0} (e : Ending) (c s : List ℕ) (m : Met H) : Type 0 where
-  pub ends : AskEnds e c s m.out
-  pub told : ForSome m.held (λ h. AskTold e h c s m.out)
+pub record AskRan {H : Type 0} (form : HitForm) (e : Ending) (c s : List ℕ) (m : Met H) : Type 0 where
+  pub ends : AskEnds form e c s m.out
+  pub told : ForSome m.held (λ h. AskTold form e h c s m.out)
   pub caused : Caused e m.files_before m.files_now m.out.before m.out.now
   pub files : m.held_now ≡ m.held
   pub hub : m.hub_now ≡ m.hub
@@ -133,7 +147,7 @@ ReplayEnds (refused r) i s w = ⊥
 ReplayEnds (absent name) i s w = ((name ≡ i) ⊎ (name ≡ s)) × (w.new ≡ w.old)
 ReplayEnds (damaged rule at) i s w = w.new ≡ w.old
 ReplayEnds no_memory i s w = w.new ≡ w.old
-ReplayEnds e i s w = EndsBy e w
+ReplayEnds e i s w = EndsBy Titled e w
 
 -- where it failed one of the counts rose; before a refused line reads may have failed; else both are as they were
 abbrev pub ReplayCaused : Ending → ℕ → ℕ → ℕ → ℕ → Type 0

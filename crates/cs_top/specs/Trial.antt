@@ -1,7 +1,7 @@
 -- What `trial N` does.
 --
 --   kept_after k held qs     the list that is kept after queries, from the list held on
---   with_reply p n c         the counts c and one reply more, by its plan and its hits
+--   with_one_reply p n c     the counts c and one reply more, by its plan and its hits
 --   sizes_of c               what counts say of a collection
 --   AddUp k qs c             counts are those of the replies to queries
 --   HasSizes k docs count    a corpus has so many documents and rows
@@ -34,11 +34,11 @@ kept_after k held [] = held
 kept_after k held (q ∷ qs) = kept_after k (after_own held MAX_ENTRIES q k) qs
 
 -- a reply with n hits, which may be none, counts for its plan
-abbrev pub with_reply : Plan → ℕ → Counts → Counts
-with_reply Same n c = record c { replies = c.replies + 1; hits = c.hits + n; same = c.same + 1 }
-with_reply (Narrow cut) n c = record c { replies = c.replies + 1; hits = c.hits + n; narrow = c.narrow + 1 }
-with_reply Extend n c = record c { replies = c.replies + 1; hits = c.hits + n; extend = c.extend + 1 }
-with_reply Fresh n c = record c { replies = c.replies + 1; hits = c.hits + n; fresh = c.fresh + 1 }
+abbrev pub with_one_reply : Plan → ℕ → Counts → Counts
+with_one_reply Same n c = record c { replies = c.replies + 1; hits = c.hits + n; same = c.same + 1 }
+with_one_reply (Narrow cut) n c = record c { replies = c.replies + 1; hits = c.hits + n; narrow = c.narrow + 1 }
+with_one_reply Extend n c = record c { replies = c.replies + 1; hits = c.hits + n; extend = c.extend + 1 }
+with_one_reply Fresh n c = record c { replies = c.replies + 1; hits = c.hits + n; fresh = c.fresh + 1 }
 
 -- documents, rows and blocks among the counts
 abbrev pub sizes_of : Counts → ℕ × ℕ × ℕ

@@ -81,7 +81,7 @@ use Rattle.cs_top.specs.declared.words.Command.TheVariants as read
 -- word by word, variant by variant
 abbrev pub seen_command : Read → Command
 seen_command (read.Build form c i) = build form c.now i.now
-seen_command (read.Ask c s) = ask c.now s.now
+seen_command (read.Ask form c s) = ask form c.now s.now
 seen_command (read.Replay i s) = replay i.now s.now
 seen_command (read.Serve i p n) = serve i.now p.now n.now
 seen_command (read.Trial n) = trial n.now

@@ -1,9 +1,9 @@
 //! A collection, and the corpus that is searched.
-ghost use Rattle.std.specs.{Option.{option_map}, Prelude.{◌≡◌, None, IfOk, IfErr, OnOk, map}};
+ghost use Rattle.std.specs.{Option.{option_map}, Prelude.{◌≡◌, None, Some, IfOk, IfErr, OnOk, map}};
 ghost use Rattle.cs_build.specs.declared.fault.BuildFault.{BuildFault};
 ghost use Rattle.cs_docs.specs.{FaultRefusals.{reason_text}, LinesRead.{doc_of_lent}};
-ghost use Rattle.cs_model.specs.{Collection.{refusal_words, weights}, Corpus.{corpus, refusal, title_of}};
-ghost use Rattle.cs_top.specs.{Filed.{HasFile, IsFiled}, Trial.{HasSizes}};
+ghost use Rattle.cs_model.specs.{Collection.{documents, refusal_words, weights}, Corpus.{corpus, refusal, title_of}};
+ghost use Rattle.cs_top.specs.{Filed.{HasFile, IsFiled}, HitForms.{HaveFewWords}, Trial.{HasSizes}};
 ghost use Rattle.cs_top.specs.declared.collection.CollectionFault.{CollectionFault};
 ghost use Rattle.cs_top.specs.Views.{IsCollectionCause, collection_refusal_of};
 
@@ -82,6 +82,19 @@ pub(crate) fn image_of(alloc: Global, bytes: &[u8]) -> Result<Imaged, Collection
         documents: document_count,
         rows: row_count,
     })
+}
+
+/// The documents of a collection that is accepted, lent from its bytes.
+pub(crate) fn documents_of(alloc: Global, bytes: &[u8]) -> Result<Vec<LentDoc<'_>>, Memory>
+    requires accepted { refusal bytes.now ≡ None }
+
+    ensures ok { IfOk result (λ docs. map doc_of_lent docs.items ≡ documents bytes.now) }
+    ensures few { IfOk result (λ docs. HaveFewWords (Some (map doc_of_lent docs.items))) }
+{
+    match lent_docs(alloc, bytes) {
+        Ok(collected) => Ok(collected.docs),
+        Err(_) => Err(Memory),
+    }
 }
 
 // The titles of documents, each in memory of its own.

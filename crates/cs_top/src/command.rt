@@ -65,7 +65,13 @@ fn carry_out<'a, F: Files, H: Hub, O: Sink>(
                 index,
             },
         ) => build(alloc, form, source, index, files),
-        Some(Command::Ask { collection, script }) => ask(alloc, collection, script, files, out),
+        Some(
+            Command::Ask {
+                form,
+                collection,
+                script,
+            },
+        ) => ask(alloc, form, collection, script, files, out),
         Some(Command::Replay { index, script }) => replay(alloc, index, script, files, out),
         Some(Command::Serve { index, port, conns }) => {
             serve(alloc, index, port, conns, files, hub, out)

@@ -18,6 +18,7 @@ mod said;
 mod saving;
 mod script;
 mod serve;
+mod showing;
 mod sources;
 mod trial;
 mod upgrade;
@@ -25,7 +26,7 @@ mod whole;
 mod words;
 
 pub use command::run;
-pub use words::{Command, Form, command_of};
+pub use words::{Command, Form, HitForm, command_of};
 
 /// The version of the program, which nothing prints.
 pub const VERSION: &str = "0.1.0";

@@ -10,6 +10,7 @@ use crate::ending::RunStop;
 use crate::files::{HeldFile, size_of};
 use crate::opening::open;
 use crate::script::{Came, answer_script};
+use crate::showing::Showing;
 use cs_base::{Files, Sink};
 use std::alloc::Global;
 
@@ -36,7 +37,8 @@ pub(crate) fn replay<'a, F: Files, O: Sink>(
         name: script,
         size: script_size,
     };
-    match answer_script(alloc, &mut engine, &mut file, files, script, out) {
+    let showing = Showing::titled(alloc);
+    match answer_script(&showing, &mut engine, &mut file, files, script, out) {
         Ok(Came::Answered) => Ok(()),
         Ok(Came::Read) => Err(RunStop::Failed),
         Ok(Came::Changed) => Err(RunStop::Changed),

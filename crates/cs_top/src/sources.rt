@@ -2,12 +2,13 @@
 ghost use Rattle.std.specs.{Option.{option_map}, Prelude.{◌≡◌, ◌<◌, ℕ, List, Some, None, IfOk, IfErr, OnOk, length}};
 ghost use Rattle.cs_base.specs.declared.content.limits.TheConstants.{MAX_COLLECTION_BYTES};
 ghost use Rattle.cs_docs.specs.FaultRefusals.{reason_text, refusal_of};
-ghost use Rattle.cs_model.specs.{Collection.{weights}, Corpus.{corpus}};
+ghost use Rattle.cs_model.specs.{Collection.{weights}, Corpus.{corpus, refusal}};
 ghost use Rattle.cs_model_sources.specs.{CsvSources.{flat_of_csv}, JsonSources.{flat_of_jsonl}};
 ghost use Rattle.cs_model_sources.specs.SourceRefusals.{csv_words, earlier, flat_refusal, jsonl_words, of_line, source_refusal, why_words};
 ghost use Rattle.cs_top.specs.{Filed.{HasFile, IsFiled}, Import.{IsAccepted, collection_in, refused_words}};
 ghost use Rattle.cs_top.specs.Views.{IsFlatCause, IsImportCause, IsOfSource, IsSized, IsSourceCause, IsStopCause, OfFile, ReadsFiles};
 ghost use Rattle.cs_top.specs.Views.{collection_refusal_of, fault_form, import_refusal_of, size_refusal_of, source_refusal_of};
+ghost use Rattle.cs_top.specs.declared.words.Form.TheVariants as forms;
 
 use crate::collection::{CollectionFault, image_of};
 use crate::ending::RunStop;
@@ -94,14 +95,55 @@ pub(crate) fn read_image<'a, F: Files>(
     ensures kind { IfErr result (IsOfSource form) }
     ensures reads { ReadsFiles (F.held files.old) (F.held files.new) (F.faults files.old) (F.faults files.new) result }
 {
-    if source.size > MAX_COLLECTION_BYTES as u64 {
-        return Err(RunStop::Collection(too_large(form)));
-    }
-    let bytes = read_all(alloc, files, source)?;
+    let bytes = read_source(alloc, files, form, source)?;
     match image_in(alloc, form, bytes) {
         Ok(image) => Ok(image),
         Err(fault) => Err(RunStop::Collection(fault)),
     }
+}
+
+/// The bytes of a collection that is accepted, and its image.
+pub(crate) fn read_collection<'a, F: Files>(
+    alloc: Global,
+    files: &mut F,
+    collection: HeldFile<'_>,
+) -> Result<(Vec<u8>, Image), RunStop<'a>>
+    requires size { IsSized (F.held files.old) collection }
+
+    ensures bytes { OfFile (F.held files.old) collection.entry (λ b. IfOk result (λ p. p.0.items ≡ b)) }
+    ensures accepted { IfOk result (λ p. refusal p.0.items ≡ None) }
+    ensures filed { IfOk result (λ p. IsFiled (corpus p.0.items) (weights p.0.items) p.1) }
+    ensures file { IfOk result (λ p. HasFile p.1) }
+    ensures cause { OfFile (F.held files.old) collection.entry (λ b. IfErr result (λ s. IsStopCause forms.Collection b s)) }
+    ensures kind { IfErr result (IsOfSource forms.Collection) }
+    ensures reads { ReadsFiles (F.held files.old) (F.held files.new) (F.faults files.old) (F.faults files.new) result }
+{
+    let bytes = read_source(alloc, files, Form::Collection, collection)?;
+    match image_of(alloc, &bytes) {
+        Ok(imaged) => Ok((bytes, imaged.image)),
+        Err(fault) => Err(RunStop::Collection(SourceFault::Collection(fault))),
+    }
+}
+
+// All bytes of a source that isn't above the limit.
+fn read_source<'a, F: Files>(
+    alloc: Global,
+    files: &mut F,
+    form: Form,
+    source: HeldFile<'_>,
+) -> Result<Vec<u8>, RunStop<'a>>
+    requires size { IsSized (F.held files.old) source }
+
+    ensures ok { OfFile (F.held files.old) source.entry (λ b. IfOk result (λ v. v.items ≡ b)) }
+    ensures cause { OfFile (F.held files.old) source.entry (λ b. IfErr result (λ s. IsStopCause form b s)) }
+    ensures kind { IfErr result (IsOfSource form) }
+    ensures reads { ReadsFiles (F.held files.old) (F.held files.new) (F.faults files.old) (F.faults files.new) result }
+{
+    if source.size > MAX_COLLECTION_BYTES as u64 {
+        return Err(RunStop::Collection(too_large(form)));
+    }
+    let bytes = read_all(alloc, files, source)?;
+    Ok(bytes)
 }
 
 // The fault of a source above the limit.

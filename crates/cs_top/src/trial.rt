@@ -1,15 +1,16 @@
 //! `trial N`: what is typed over the collection of a number is asked, and what came of it is told.
-ghost use Rattle.std.specs.Prelude.{◌≡◌, ◌≤◌, ◌+◌, ◌++◌, ◌∷◌, ◌^◌, [], ℕ, List, All, IfOk, OnOk, Some, length, map, true};
+ghost use Rattle.std.specs.Prelude.{◌≡◌, ◌≤◌, ◌+◌, ◌++◌, ◌∷◌, ◌^◌, [], ℕ, List, All, IfOk, None, OnOk, Some, length, map, true};
 ghost use Rattle.cs_base.specs.declared.content.{limits.TheConstants.{MAX_TRIAL, MAX_TRIAL_DIGITS}, query.Query.{Query}};
 ghost use Rattle.cs_file.specs.Indexes.{HasAllBlocks, StandsFor};
-ghost use Rattle.cs_model.specs.{Collection.{weights}, Corpus.{corpus}, Parameters.{HoldsLimits}};
+ghost use Rattle.cs_model.specs.{Collection.{weights}, Corpus.{corpus, refusal}, Parameters.{HoldsLimits}};
 ghost use Rattle.cs_model_trial.specs.Summary.{IsSummary};
 ghost use Rattle.cs_query.specs.RequestView.{asked};
 ghost use Rattle.cs_top.specs.{CommandLine.{CausedBy, is_number}, Filed.{HasFile, IsFiled}, Met.{wrote}, Views.{ended}};
-ghost use Rattle.cs_top.specs.Trial.{AreFew, HasAsked, HasSizes, IsSteady, TrialEnds, sizes_of, with_reply};
+ghost use Rattle.cs_top.specs.Trial.{AreFew, HasAsked, HasSizes, IsSteady, TrialEnds, sizes_of, with_one_reply};
+ghost use Rattle.cs_top.specs.Views.{collection_refusal_of};
 ghost use Rattle.cs_trial.specs.declared.counts.Counts.{Counts};
 
-use crate::collection::{Imaged, image_of};
+use crate::collection::{CollectionFault, Imaged, image_of};
 use crate::ending::RunStop;
 use crate::opening::open_image;
 use crate::words::trial_of;
@@ -55,16 +56,27 @@ fn summary_of(alloc: Global, n: u32) -> Result<Vec<u8>, Memory>
     summary_bytes(alloc, &counts)
 }
 
-// The image of a trial's collection, which keeps each rule and each limit of collections. That isn't said by a clause, so a
-// refusal is told as want of memory.
+// The image of a collection that is accepted: nothing but want of memory keeps it from being made.
 fn imaged(alloc: Global, bytes: &[u8]) -> Result<Imaged, Memory>
+    requires accepted { refusal bytes.now ≡ None }
+
     ensures ok { IfOk result (λ i. IsFiled (corpus bytes.now) (weights bytes.now) i.image) }
     ensures file { IfOk result (λ i. HasFile i.image) }
     ensures sizes { IfOk result (λ i. HasSizes (corpus bytes.now) i.documents i.rows) }
 {
     match image_of(alloc, bytes) {
         Ok(imaged) => Ok(imaged),
-        Err(_) => Err(Memory),
+        Err(fault) => Err(want_of(fault)),
+    }
+}
+
+// Want of memory, which a fault is that names no refusal.
+fn want_of(fault: CollectionFault) -> Memory
+    requires { collection_refusal_of fault ≡ None }
+{
+    match fault.reason() {
+        None => Memory,
+        Some(_) => unreachable!(),
     }
 }
 
@@ -142,7 +154,7 @@ fn answer(
     requires stands { StandsFor store.old.bytes engine.old.index }
     requires fits { HasAllBlocks (Some store.old.bytes) engine.old.index }
 
-    ensures asked { (qs : List Query) → (c : Counts) → HasAsked store.old.bytes qs engine.old c → IfOk result (λ r. HasAsked store.new.bytes (qs ++ request.now.query ∷ []) engine.new (with_reply r.1.plan r.0.total_hits c)) }
+    ensures asked { (qs : List Query) → (c : Counts) → HasAsked store.old.bytes qs engine.old c → IfOk result (λ r. HasAsked store.new.bytes (qs ++ request.now.query ∷ []) engine.new (with_one_reply r.1.plan r.0.total_hits c)) }
     ensures steady { IsSteady store.old.bytes store.new.bytes engine.old engine.new }
 {
     match engine.ask(alloc, store, request) {
@@ -156,7 +168,7 @@ fn answer(
 fn count(counts: &mut Counts, plan: Plan, hits: u32)
     requires { AreFew (2 ^ 16) counts.old }
 
-    ensures { counts.new ≡ with_reply plan hits counts.old }
+    ensures { counts.new ≡ with_one_reply plan hits counts.old }
 {
     counts.replies += 1;
     counts.hits += u64::from(hits);

@@ -23,6 +23,15 @@ pub enum Form {
     JsonLines,
 }
 
+/// How the hits of replies are shown.
+#[derive(Clone, Copy, Debug, PartialEq, Eq)]
+pub enum HitForm {
+    /// With their titles alone.
+    Titled,
+    /// With an excerpt of each one's document too.
+    Excerpted,
+}
+
 /// What the words ask for.
 #[derive(Clone, Copy, Debug, PartialEq, Eq)]
 pub enum Command<'a> {
@@ -35,8 +44,10 @@ pub enum Command<'a> {
         /// The index file's name.
         index: &'a str,
     },
-    /// `ask COLLECTION SCRIPT`.
+    /// `ask COLLECTION SCRIPT` or `excerpts COLLECTION SCRIPT`.
     Ask {
+        /// How hits are shown.
+        form: HitForm,
         /// The collection's name.
         collection: &'a str,
         /// The script's name.
@@ -110,6 +121,7 @@ fn two_words<'a>(command: &str, first: &'a str, second: &'a str) -> Option<Comma
             index: second,
         }),
         "ask" => Some(Command::Ask {
+            form: HitForm::Titled,
             collection: first,
             script: second,
         }),
@@ -120,6 +132,11 @@ fn two_words<'a>(command: &str, first: &'a str, second: &'a str) -> Option<Comma
         "upgrade" => Some(Command::Upgrade {
             index: first,
             new: second,
+        }),
+        "excerpts" => Some(Command::Ask {
+            form: HitForm::Excerpted,
+            collection: first,
+            script: second,
         }),
         _ => None,
     }

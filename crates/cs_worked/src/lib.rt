@@ -6,6 +6,7 @@
 
 mod collections;
 mod commands;
+mod excerpts;
 mod files;
 mod heads;
 mod keystrokes;
@@ -16,6 +17,7 @@ pub use collections::{
     BAD_FACET, BAD_NAME, BAD_WEIGHTS, GUIDE, MARKED_LINES, THREE_DOCUMENTS, WEIGHED,
 };
 pub use commands::USAGE;
+pub use excerpts::EXCERPTED;
 pub use files::{NO_DOCUMENTS, ONE_DOCUMENT, USUALLY_WEIGHED, WEIGHED_DOCUMENT};
 pub use heads::{
     ANNOUNCED_BODY, FAILED_READ, HEADS, LONG_HEAD, NO_QUERY, OTHER_METHOD, OTHER_PATH, TYPED,

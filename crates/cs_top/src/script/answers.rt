@@ -7,11 +7,11 @@ ghost use Rattle.cs_json.specs.declared.fault.Fault.TheVariants as faults;
 ghost use Rattle.cs_model.specs.Corpus.{Corpus};
 ghost use Rattle.cs_model.specs.Outputs.{memory_text, read_text};
 ghost use Rattle.cs_model.specs.Parameters.{HoldsLimits};
-ghost use Rattle.cs_model.specs.Replies.{reply_text};
 ghost use Rattle.cs_query.specs.RequestView.{asked};
 ghost use Rattle.cs_query.specs.declared.request.ReqFault.{ReqFault};
 ghost use Rattle.cs_top.specs.Answering.{AnswersOver, CameOver, HasReply, HasText, IsThere, MayAnswer, StaysOver, bytes_there, came_of_answer, line_bytes};
 ghost use Rattle.cs_top.specs.CommandLine.{CausedBy};
+ghost use Rattle.cs_top.specs.HitForms.{form_by, shown_reply};
 ghost use Rattle.cs_top.specs.declared.script.answers.Answer.TheVariants as answers;
 ghost use Rattle.cs_top.specs.Met.{wrote};
 ghost use Rattle.cs_top.specs.PutTexts.{CutsLine, HasTextBy, IsChangeLine, PutsLine};
@@ -21,10 +21,11 @@ ghost use Rattle.cs_top.specs.Views.{of_script, stop_ending};
 use crate::answering::{IndexFile, respond};
 use crate::lines::{ScriptStop, line_fault};
 use crate::script::Came;
-use cs_base::{Files, Memory, Sink};
+use crate::showing::Showing;
+use cs_base::{Files, Memory, Query, Sink};
 use cs_engine::{AskFault, Engine};
 use cs_http::request;
-use cs_json::{Fault, fault_bytes, reply_bytes};
+use cs_json::{Fault, fault_bytes};
 use cs_query::{Reply, ReqFault, Request};
 use std::alloc::Global;
 
@@ -51,7 +52,7 @@ impl From<Memory> for Answer {
 
 /// Answers a line of a script, if it has bytes, and says what came of it. An error says how the script ends there.
 pub(crate) fn answer_line<F: Files, O: Sink>(
-    alloc: Global,
+    showing: &Showing<'_>,
     engine: &mut Engine,
     file: &mut IndexFile<'_>,
     files: &mut F,
@@ -61,12 +62,12 @@ pub(crate) fn answer_line<F: Files, O: Sink>(
 ) -> Result<Came, ScriptStop>
     requires there { IsThere engine.old.index file.old (F.held files.old) }
 
-    ensures ok { (k : Corpus) → AnswersOver engine.old file.old (F.held files.old) k → IfOk result (λ came. Passes (MayAnswer file.old k) (number, line.now) (O.written out.old) (O.written out.new) came (F.faults files.old) (F.faults files.new)) }
-    ensures err { (k : Corpus) → AnswersOver engine.old file.old (F.held files.old) k → IfErr result (λ s. StopsAt (MayAnswer file.old k) (stop_ending (of_script s)) (number, line.now)
+    ensures ok { (k : Corpus) → AnswersOver engine.old file.old (F.held files.old) k → IfOk result (λ came. Passes (MayAnswer showing.now file.old k) (number, line.now) (O.written out.old) (O.written out.new) came (F.faults files.old) (F.faults files.new)) }
+    ensures err { (k : Corpus) → AnswersOver engine.old file.old (F.held files.old) k → IfErr result (λ s. StopsAt (MayAnswer showing.now file.old k) (stop_ending (of_script s)) (number, line.now)
         (wrote O.written O.faults out.old out.new) (F.faults files.old) (F.faults files.new)) }
     ensures came { IfOk result (λ came. CameOver engine.old file.old (F.held files.old) came (F.faults files.old) (F.faults files.new)) }
-    ensures puts { IfOk result (λ came. PutsLine came (O.written out.old) (O.written out.new)) }
-    ensures cuts { IfErr result (λ s. CutsLine (stop_ending (of_script s)) (wrote O.written O.faults out.old out.new)) }
+    ensures puts { IfOk result (λ came. PutsLine (form_by showing.now) came (O.written out.old) (O.written out.new)) }
+    ensures cuts { IfErr result (λ s. CutsLine (form_by showing.now) (stop_ending (of_script s)) (wrote O.written O.faults out.old out.new)) }
     ensures over { StaysOver engine.old engine.new file.old file.new (F.held files.old) (F.held files.new) }
     ensures later { F.faults files.old ≤ F.faults files.new }
     ensures made { is_some file.old.made ≡ true → F.faults files.new ≡ F.faults files.old }
@@ -79,7 +80,7 @@ pub(crate) fn answer_line<F: Files, O: Sink>(
     if let Some(fault) = line_fault(line, number) {
         return Err(ScriptStop::Unread(fault));
     }
-    let answer = answer_params(alloc, engine, file, files, line);
+    let answer = answer_params(showing, engine, file, files, line);
     put_answer(out, &answer)
 }
 
@@ -132,7 +133,7 @@ fn put<O: Sink>(out: &mut O, bytes: &[u8], came: Came) -> Result<Came, ScriptSto
 
 // What is put for a line that is read.
 fn answer_params<F: Files>(
-    alloc: Global,
+    showing: &Showing<'_>,
     engine: &mut Engine,
     file: &mut IndexFile<'_>,
     files: &mut F,
@@ -141,19 +142,19 @@ fn answer_params<F: Files>(
     requires there { IsThere engine.old.index file.old (F.held files.old) }
 
     ensures came { CameOver engine.old file.old (F.held files.old) (came_of_answer result) (F.faults files.old) (F.faults files.new) }
-    ensures text { (k : Corpus) → AnswersOver engine.old file.old (F.held files.old) k → HasText (MayAnswer file.old k) line.now result }
-    ensures texts { HasTextBy result }
+    ensures text { (k : Corpus) → AnswersOver engine.old file.old (F.held files.old) k → HasText (MayAnswer showing.now file.old k) line.now result }
+    ensures texts { HasTextBy (form_by showing.now) result }
     ensures over { StaysOver engine.old engine.new file.old file.new (F.held files.old) (F.held files.new) }
 {
-    match request(alloc, line) {
-        Ok(wanted) => answer_request(alloc, engine, file, files, &wanted),
-        Err(fault) => text_or_memory(refusal_line(alloc, fault)),
+    match request(showing.alloc, line) {
+        Ok(wanted) => answer_request(showing, engine, file, files, &wanted),
+        Err(fault) => text_or_memory(refusal_line(showing.alloc, fault)),
     }
 }
 
 // What is put for a line that is a request.
 fn answer_request<F: Files>(
-    alloc: Global,
+    showing: &Showing<'_>,
     engine: &mut Engine,
     file: &mut IndexFile<'_>,
     files: &mut F,
@@ -163,16 +164,18 @@ fn answer_request<F: Files>(
     requires there { IsThere engine.old.index file.old (F.held files.old) }
 
     ensures came { CameOver engine.old file.old (F.held files.old) (came_of_answer result) (F.faults files.old) (F.faults files.new) }
-    ensures text { (k : Corpus) → AnswersOver engine.old file.old (F.held files.old) k → HasReply k (asked wanted.now) result }
-    ensures texts { HasTextBy result }
+    ensures text { (k : Corpus) → AnswersOver engine.old file.old (F.held files.old) k → HasReply showing.now k (asked wanted.now) result }
+    ensures texts { HasTextBy (form_by showing.now) result }
     ensures changed { IsChangeLine engine.old.index (bytes_there file.old (F.held files.old)) result }
     ensures over { StaysOver engine.old engine.new file.old file.new (F.held files.old) (F.held files.new) }
 {
-    match respond(alloc, engine, file, files, wanted) {
-        Ok((reply, _)) => text_or_memory(reply_line(alloc, &reply)),
+    match respond(showing.alloc, engine, file, files, wanted) {
+        Ok((reply, _)) => text_or_memory(reply_line(showing, &wanted.query, &reply)),
         Err(AskFault::Memory) => Answer::Memory,
         Err(AskFault::Read) => Answer::Read,
-        Err(AskFault::Changed { rule, at }) => { Answer::Changed(changed_line(alloc, rule, at)) }
+        Err(AskFault::Changed { rule, at }) => {
+            Answer::Changed(changed_line(showing.alloc, rule, at))
+        }
     }
 }
 
@@ -186,11 +189,11 @@ fn text_or_memory(line: Result<Vec<u8>, Memory>) -> Answer
     }
 }
 
-// The text of a reply, and its line ending.
-fn reply_line(alloc: Global, reply: &Reply) -> Result<Vec<u8>, Memory>
-    ensures { IfOk result (λ b. b.items ≡ reply_text reply.now ++ 10 ∷ []) }
+// The text of a reply to a query, and its line ending.
+fn reply_line(showing: &Showing<'_>, query: &Query, reply: &Reply) -> Result<Vec<u8>, Memory>
+    ensures { IfOk result (λ b. b.items ≡ shown_reply showing.now query.now reply.now ++ 10 ∷ []) }
 {
-    let mut bytes = reply_bytes(alloc, reply)?;
+    let mut bytes = showing.reply_bytes(query, reply)?;
     bytes.push(b'\n')?;
     Ok(bytes)
 }

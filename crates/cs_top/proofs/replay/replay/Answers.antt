@@ -1,5 +1,5 @@
 use Rattle.std.proofs.Common.{◌≡◌, ◌∙◌, ℕ, List, inl, inr, refl, rules, sym, subst}
-use Rattle.std.specs.Prelude.{Some, Ok}
+use Rattle.std.specs.Prelude.{None, Some, Ok, IfOk, IfErr}
 use Rattle.cs_base.specs.outside.Outside.{Held}
 use Rattle.cs_file.specs.Indexes.{StandsFor}
 use Rattle.cs_model.specs.Corpus.{Corpus}
@@ -7,11 +7,13 @@ use Rattle.cs_model.specs.Outputs.{script_lines}
 use Rattle.cs_model_index.specs.Sections.{file_corpus}
 use Rattle.cs_top.specs.Answering.{AnswersOver, MayAnswer}
 use Rattle.cs_top.specs.ScriptEndings.{ScriptEnds, ShortTally, Tally}
+use Rattle.cs_top.specs.declared.words.HitForm.TheVariants.{Titled}
 use Rattle.cs_top.specs.declared.script.Came.{Came}
 use Rattle.cs_top.specs.declared.script.Came.TheVariants.{Answered, Read, Changed}
 use Rattle.cs_top.specs.CommandLine.{Ending, done, failed}
+use Rattle.cs_top.specs.HitForms.{AtHand, form_by}
 use Rattle.cs_top.specs.Met.{Wrote, held_bytes, wrote}
-use Rattle.cs_top.specs.PutTexts.{PutsTexts}
+use Rattle.cs_top.specs.PutTexts.{EndsBy, PutsTexts}
 use Rattle.cs_top.specs.ScriptRuns.{CanBeOpened, ReplayEnds, ReplayScript, ReplayTold}
 use Rattle.cs_top.specs.Views.{of_script, stop_ending}
 use Rattle.cs_top.proofs.PutTextLemmas.{puts_some}
@@ -64,14 +66,17 @@ told g c h held e script =
 -- each line was passed, and this came of them
 abbrev Passed : (g : given.Over) → After-answer_script g → Held → Came → Type 0
 Passed g c h came = (ts : List (List ℕ))
-    × ScriptEnds (MayAnswer c.held-file.result (k g c h)) done (ls g c h) ts (w g c)
+    × ScriptEnds (MayAnswer None c.held-file.result (k g c h)) done (ls g c h) ts (w g c)
     × Tally came (g.F.Files.faults c.open.new.files) (g.F.Files.faults c.answer_script.new.files) ts
 
 passed : (g : given.Over) (c : After-answer_script g) (h : Held) → g.F.Files.held c.args.files.now ≡ Some h
     → (x y : Came) → c.answer_script.result ≡ Ok x → x ≡ y → Passed g c h y
 passed g c h held x y is same =
     let o = is_open g c h held in
-    ok_there c.answer_script.result x y (Passed g c h) is same (c.answer_script.ensures.whole (k g c h) o.over h o.still)
+    let whole = subst (λ (docs : AtHand). IfOk c.answer_script.result (λ came. (ts : List (List ℕ))
+    × ScriptEnds (MayAnswer docs c.held-file.result (k g c h)) done (ls g c h) ts (w g c)
+    × Tally came (g.F.Files.faults c.open.new.files) (g.F.Files.faults c.answer_script.new.files) ts)) c.titled-showing.ensures (c.answer_script.ensures.whole (k g c h) o.over h o.still) in
+    ok_there c.answer_script.result x y (Passed g c h) is same whole
 
 pub returns-clause-told : goal.returns-clause-told
 returns-clause-told g c h held =
@@ -81,9 +86,11 @@ returns-clause-told g c h held =
     let fb = g.F.Files.faults c.open.new.files in
     let fn = g.F.Files.faults c.answer_script.new.files in
     let short = err_there c.answer_script.result c.in-Err.stop (λ s. (ts : List (List ℕ))
-    × ScriptEnds (MayAnswer f (k g met h)) (stop_ending (of_script s)) (ls g met h) ts (w g met)
+    × ScriptEnds (MayAnswer None f (k g met h)) (stop_ending (of_script s)) (ls g met h) ts (w g met)
     × ShortTally (stop_ending (of_script s)) (w g met) fb fn ts) c.in-Err.is
-    (c.answer_script.ensures.short (k g met h) o.over h o.still) in
+    (subst (λ (docs : AtHand). IfErr c.answer_script.result (λ s. (ts : List (List ℕ))
+    × ScriptEnds (MayAnswer docs f (k g met h)) (stop_ending (of_script s)) (ls g met h) ts (w g met)
+    × ShortTally (stop_ending (of_script s)) (w g met) fb fn ts)) c.titled-showing.ensures (c.answer_script.ensures.short (k g met h) o.over h o.still)) in
     let all = told g met h held (stop_ending (of_script c.in-Err.stop)) (script_short f (k g met h) (ls g met h) fb fn (w g met) c.in-Err.stop short) in
     subst (λ x. ReplayTold (stop_ending x) h c.args.index.now c.args.script.now (g.F.Files.faults c.args.files.now) fn (w g met)) (sym c.from.ensures) all
 
@@ -107,8 +114,10 @@ returns-in-Ok-Changed-clause-told g c h held =
 
 -- ---- over any files
 -- the texts that were put, by what came of the lines
-put_by : (g : given.Over) (c : After-answer_script g) (x y : Came) → c.answer_script.result ≡ Ok x → x ≡ y → PutsTexts y (g.O.Sink.written c.args.out.now) (g.O.Sink.written c.answer_script.new.out)
-put_by g c x y is same = ok_there c.answer_script.result x y (λ came. PutsTexts came (g.O.Sink.written c.args.out.now) (g.O.Sink.written c.answer_script.new.out)) is same c.answer_script.ensures.puts
+put_by : (g : given.Over) (c : After-answer_script g) (x y : Came) → c.answer_script.result ≡ Ok x → x ≡ y → PutsTexts Titled y (g.O.Sink.written c.args.out.now) (g.O.Sink.written c.answer_script.new.out)
+put_by g c x y is same =
+    ok_there c.answer_script.result x y (λ came. PutsTexts Titled came (g.O.Sink.written c.args.out.now) (g.O.Sink.written c.answer_script.new.out)) is same
+    (subst (λ (docs : AtHand). IfOk c.answer_script.result (λ came. PutsTexts (form_by docs) came (g.O.Sink.written c.args.out.now) (g.O.Sink.written c.answer_script.new.out))) c.titled-showing.ensures c.answer_script.ensures.puts)
 
 -- before the script nothing is put
 abbrev unput : (g : given.Over) → g.row.O.Denot → Wrote
@@ -137,7 +146,7 @@ returns-in-Ok-Answered-clause-ends g c =
 pub returns-in-Ok-Read-clause-ends : goal.returns-in-Ok-Read-clause-ends
 returns-in-Ok-Read-clause-ends g c =
     let met = (goal.at.returns-in-Ok-Read-clause-ends g c).After-answer_script in
-    puts_some Read (w g met) (put_by g met c.in-Ok-Read.field-0 Read c.in-Ok-Read.is c.in-Ok-Read.field-0-is)
+    puts_some Titled Read (w g met) (put_by g met c.in-Ok-Read.field-0 Read c.in-Ok-Read.is c.in-Ok-Read.field-0-is)
 
 pub returns-in-Ok-Changed-clause-ends : goal.returns-in-Ok-Changed-clause-ends
 returns-in-Ok-Changed-clause-ends g c =
@@ -147,4 +156,5 @@ returns-in-Ok-Changed-clause-ends g c =
 pub returns-clause-ends : goal.returns-clause-ends
 returns-clause-ends g c =
     let put = w g (goal.at.returns-clause-ends g c).After-answer_script in
-    short_by (λ e. ReplayEnds e c.args.index.now c.args.script.now put) put c.answer_script.result c.in-Err.stop c.from.result (λ f h. h) (λ h. h) c.in-Err.is c.answer_script.ensures.cuts c.from.ensures
+    short_by (λ e. ReplayEnds e c.args.index.now c.args.script.now put) Titled put c.answer_script.result c.in-Err.stop c.from.result (λ f h. h) (λ h. h) c.in-Err.is
+    (subst (λ (docs : AtHand). IfErr c.answer_script.result (λ y. EndsBy (form_by docs) (stop_ending (of_script y)) put)) c.titled-showing.ensures c.answer_script.ensures.cuts) c.from.ensures

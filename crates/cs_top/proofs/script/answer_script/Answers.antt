@@ -7,6 +7,7 @@ use Rattle.cs_model.specs.Outputs.{script_lines}
 use Rattle.cs_model.specs.Words.{is_filled}
 use Rattle.cs_top.specs.Answering.{CameOver, MayAnswer}
 use Rattle.cs_top.specs.CommandLine.{failed}
+use Rattle.cs_top.specs.HitForms.{form_by}
 use Rattle.cs_top.specs.Met.{held_bytes, wrote}
 use Rattle.cs_top.specs.PutTexts.{CutsLine, EndsBy, PutsTexts}
 use Rattle.cs_top.specs.ScriptEndings.{ScriptEnds, ShortTally, EndsAt, Reaches}
@@ -19,7 +20,7 @@ use Rattle.cs_top.proofs.script.answer_script.Goals as goal
 
 pub returns-in_err-at-clause-short : goal.returns-in_err-at-clause-short
 returns-in_err-at-clause-short g c k over h held =
-    let a = MayAnswer c.args.file.now k in
+    let a = MayAnswer c.args.showing.now c.args.file.now k in
     let ls = script_lines (held_bytes h c.args.script.name.now) in
     let w = g.O.Sink.written c.args.out.now in
     let n = g.O.Sink.faults c.args.out.now in
@@ -32,7 +33,7 @@ returns-in_err-at-clause-short g c k over h held =
 
 pub returns-in_err-at-clause-cuts : goal.returns-in_err-at-clause-cuts
 returns-in_err-at-clause-cuts g c =
-    let all : EndsBy failed (wrote g.O.Sink.written g.O.Sink.faults c.args.out.now c.args.out.now) = nothing_put (wrote g.O.Sink.written g.O.Sink.faults c.args.out.now c.args.out.now) refl in
+    let all : EndsBy (form_by c.args.showing.now) failed (wrote g.O.Sink.written g.O.Sink.faults c.args.out.now c.args.out.now) = nothing_put (form_by c.args.showing.now) (wrote g.O.Sink.written g.O.Sink.faults c.args.out.now c.args.out.now) refl in
     search rules
 
 pub loop-place-init : goal.loop-place-init
@@ -40,7 +41,7 @@ loop-place-init g c = record {
   so_far = λ k over h held.
       at_start _ _ _ (g.O.Sink.written c.args.out.now) (g.F.Files.faults c.args.files.now) (g.F.Files.faults c.first_place.new.files) (ap (λ x. filter (λ l. is_filled l.1) (enumerate_from 1 (lines x))) (c.in_ok-at.ensures.mark h held))
       c.in_ok-at.ensures.counted.quiet;
-  puts = puts_none (g.O.Sink.written c.args.out.now);
+  puts = puts_none (form_by c.args.showing.now) (g.O.Sink.written c.args.out.now);
   came = came_none c.args.engine.now c.args.file.now _ _ _ c.in_ok-at.ensures.counted.quiet;
   over = over_none c.args.engine.now c.args.file.now _ _ c.in_ok-at.ensures.same;
   out = refl;
@@ -57,10 +58,10 @@ returns-in_err-next-clause-short g c k over h held =
     let last = g.O.Sink.faults c.answer_next.new.out in
     let n = g.F.Files.faults c.answer_next.new.files in
     let there = c.in_err-next.ensures.err k (inv.over.stays k over) h (inv.over.files ∙ held) in
-    let here : EndsAt (MayAnswer c.args.file.now k) e b c.loop-place.place (record { old = g.O.Sink.written c.loop-place.out; new = new; before = first; now = last }) (g.F.Files.faults c.loop-place.files) n =
-    subst (λ m. EndsAt (MayAnswer c.args.file.now k) e b c.loop-place.place (record { old = g.O.Sink.written c.loop-place.out; new = new; before = m; now = last }) (g.F.Files.faults c.loop-place.files) n) inv.out
-    (subst (λ f. EndsAt (MayAnswer f k) e b c.loop-place.place (wrote g.O.Sink.written g.O.Sink.faults c.loop-place.out c.answer_next.new.out) (g.F.Files.faults c.loop-place.files) n) inv.over.file there) in
-    let all : (ts : List (List ℕ)) × ScriptEnds (MayAnswer c.args.file.now k) e (script_lines b) ts (wrote g.O.Sink.written g.O.Sink.faults c.args.out.now c.answer_next.new.out)
+    let here : EndsAt (MayAnswer c.args.showing.now c.args.file.now k) e b c.loop-place.place (record { old = g.O.Sink.written c.loop-place.out; new = new; before = first; now = last }) (g.F.Files.faults c.loop-place.files) n =
+    subst (λ m. EndsAt (MayAnswer c.args.showing.now c.args.file.now k) e b c.loop-place.place (record { old = g.O.Sink.written c.loop-place.out; new = new; before = m; now = last }) (g.F.Files.faults c.loop-place.files) n) inv.out
+    (subst (λ f. EndsAt (MayAnswer c.args.showing.now f k) e b c.loop-place.place (wrote g.O.Sink.written g.O.Sink.faults c.loop-place.out c.answer_next.new.out) (g.F.Files.faults c.loop-place.files) n) inv.over.file there) in
+    let all : (ts : List (List ℕ)) × ScriptEnds (MayAnswer c.args.showing.now c.args.file.now k) e (script_lines b) ts (wrote g.O.Sink.written g.O.Sink.faults c.args.out.now c.answer_next.new.out)
     × ShortTally e (wrote g.O.Sink.written g.O.Sink.faults c.args.out.now c.answer_next.new.out) (g.F.Files.faults c.args.files.now) n ts =
     ends_here b c.loop-place.place (inv.so_far k over h held) first last e new n here in
     search rules
@@ -72,10 +73,10 @@ returns-in_err-next-clause-cuts g c =
     let new = g.O.Sink.written c.answer_next.new.out in
     let first = g.O.Sink.faults c.args.out.now in
     let last = g.O.Sink.faults c.answer_next.new.out in
-    let here : CutsLine e (record { old = g.O.Sink.written c.loop-place.out; new = new; before = first; now = last }) =
-    subst (λ m. CutsLine e (record { old = g.O.Sink.written c.loop-place.out; new = new; before = m; now = last })) inv.out c.in_err-next.ensures.cuts in
-    let all : EndsBy e (wrote g.O.Sink.written g.O.Sink.faults c.args.out.now c.answer_next.new.out) =
-    puts_cut c.loop-place.came (g.O.Sink.written c.args.out.now) (g.O.Sink.written c.loop-place.out) first last new e inv.puts here in
+    let here : CutsLine (form_by c.args.showing.now) e (record { old = g.O.Sink.written c.loop-place.out; new = new; before = first; now = last }) =
+    subst (λ m. CutsLine (form_by c.args.showing.now) e (record { old = g.O.Sink.written c.loop-place.out; new = new; before = m; now = last })) inv.out c.in_err-next.ensures.cuts in
+    let all : EndsBy (form_by c.args.showing.now) e (wrote g.O.Sink.written g.O.Sink.faults c.args.out.now c.answer_next.new.out) =
+    puts_cut (form_by c.args.showing.now) c.loop-place.came (g.O.Sink.written c.args.out.now) (g.O.Sink.written c.loop-place.out) first last new e inv.puts here in
     search rules
 
 pub loop-place-preserved : goal.loop-place-preserved
@@ -87,13 +88,13 @@ loop-place-preserved g c =
       so_far = λ k over h held.
           let b = held_bytes h c.args.script.name.now in
           let there = next.ensures.ok k (inv.over.stays k over) h (inv.over.files ∙ held) in
-          let here : Reaches (MayAnswer c.args.file.now k) b c.loop-place.place next.next (g.O.Sink.written c.loop-place.out) (g.O.Sink.written c.answer_next.new.out) next.met (g.F.Files.faults c.loop-place.files) (g.F.Files.faults c.answer_next.new.files) =
-          subst (λ f. Reaches (MayAnswer f k) b c.loop-place.place next.next (g.O.Sink.written c.loop-place.out) (g.O.Sink.written c.answer_next.new.out) next.met (g.F.Files.faults c.loop-place.files) (g.F.Files.faults c.answer_next.new.files)) inv.over.file there in
-          subst (λ x. HasAnswered (MayAnswer c.args.file.now k) (script_lines b) (lines_at b next.next) (g.O.Sink.written c.args.out.now) (g.O.Sink.written c.answer_next.new.out) x (g.F.Files.faults c.args.files.now) (g.F.Files.faults c.answer_next.new.files)) (sym is)
+          let here : Reaches (MayAnswer c.args.showing.now c.args.file.now k) b c.loop-place.place next.next (g.O.Sink.written c.loop-place.out) (g.O.Sink.written c.answer_next.new.out) next.met (g.F.Files.faults c.loop-place.files) (g.F.Files.faults c.answer_next.new.files) =
+          subst (λ f. Reaches (MayAnswer c.args.showing.now f k) b c.loop-place.place next.next (g.O.Sink.written c.loop-place.out) (g.O.Sink.written c.answer_next.new.out) next.met (g.F.Files.faults c.loop-place.files) (g.F.Files.faults c.answer_next.new.files)) inv.over.file there in
+          subst (λ x. HasAnswered (MayAnswer c.args.showing.now c.args.file.now k) (script_lines b) (lines_at b next.next) (g.O.Sink.written c.args.out.now) (g.O.Sink.written c.answer_next.new.out) x (g.F.Files.faults c.args.files.now) (g.F.Files.faults c.answer_next.new.files)) (sym is)
           (goes_on b c.loop-place.place (inv.so_far k over h held) next.next (g.O.Sink.written c.answer_next.new.out) next.met (g.F.Files.faults c.answer_next.new.files) here);
       puts =
-          subst (λ x. PutsTexts x (g.O.Sink.written c.args.out.now) (g.O.Sink.written c.answer_next.new.out)) (sym is)
-          (puts_more c.loop-place.came next.met _ _ _ inv.puts next.ensures.puts);
+          subst (λ x. PutsTexts (form_by c.args.showing.now) x (g.O.Sink.written c.args.out.now) (g.O.Sink.written c.answer_next.new.out)) (sym is)
+          (puts_more (form_by c.args.showing.now) c.loop-place.came next.met _ _ _ inv.puts next.ensures.puts);
       came =
           subst (λ x. CameOver c.args.engine.now c.args.file.now (g.F.Files.held c.args.files.now) x (g.F.Files.faults c.args.files.now) (g.F.Files.faults c.answer_next.new.files)) (sym is)
           (came_more inv.over c.loop-place.came next.met _ _ _ inv.came next.ensures.came);

@@ -7,6 +7,7 @@ use Rattle.cs_file.specs.declared.fault.FetchFault.TheVariants as asks
 use Rattle.cs_engine.specs.declared.note.Note.{Note}
 use Rattle.cs_model.specs.Replies.{Reply}
 use Rattle.cs_top.specs.Answering.{bytes_there}
+use Rattle.cs_top.specs.HitForms.{form_by}
 use Rattle.cs_top.proofs.AnswerLemmas.{change_line, changed_put, reply_put}
 use Rattle.cs_top.proofs.PutTextLemmas.{memory_put, read_put}
 use Rattle.cs_top.proofs.script.answers.answer_request.Goals as goal
@@ -26,16 +27,16 @@ pub returns-in-Err-Changed-clause-text : goal.returns-in-Err-Changed-clause-text
 returns-in-Err-Changed-clause-text g c k over = unlike {T = Reply × Note} (Err c.in-Err-Changed.field-0) c.in-Err-Changed.field-0 _ _ refl c.in-Err-Changed.field-0-is (c.in-Err-Changed.ensures.unchanged k over)
 
 pub returns-in-Ok-clause-texts : goal.returns-in-Ok-clause-texts
-returns-in-Ok-clause-texts g c = reply_put c.in-Ok.reply c.reply_line.result c.text_or_memory.result c.text_or_memory.ensures.text c.text_or_memory.ensures.memory c.reply_line.ensures
+returns-in-Ok-clause-texts g c = reply_put c.args.showing.now c.args.wanted.now.query c.in-Ok.reply c.reply_line.result c.text_or_memory.result c.text_or_memory.ensures.text c.text_or_memory.ensures.memory c.reply_line.ensures
 
 pub returns-in-Err-Memory-clause-texts : goal.returns-in-Err-Memory-clause-texts
-returns-in-Err-Memory-clause-texts g c = memory_put
+returns-in-Err-Memory-clause-texts g c = memory_put (form_by c.args.showing.now)
 
 pub returns-in-Err-Read-clause-texts : goal.returns-in-Err-Read-clause-texts
-returns-in-Err-Read-clause-texts g c = read_put
+returns-in-Err-Read-clause-texts g c = read_put (form_by c.args.showing.now)
 
 pub returns-in-Err-Changed-clause-texts : goal.returns-in-Err-Changed-clause-texts
-returns-in-Err-Changed-clause-texts g c = changed_put c.changed_line.result _ _ c.changed_line.ensures
+returns-in-Err-Changed-clause-texts g c = changed_put (form_by c.args.showing.now) c.changed_line.result _ _ c.changed_line.ensures
 
 pub returns-in-Err-Changed-clause-changed : goal.returns-in-Err-Changed-clause-changed
 returns-in-Err-Changed-clause-changed g c =

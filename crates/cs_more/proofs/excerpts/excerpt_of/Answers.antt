@@ -10,25 +10,23 @@ use Rattle.cs_more.specs.RunSearch.{places_of}
 use Rattle.cs_model_excerpts.specs.Excerpts.{is_positive, run_text, shown_run, textual}
 use Rattle.cs_model_excerpts.specs.OwnWords.{part_marks}
 use Rattle.cs_more.proofs.ShownRuns.{none_marked, run_shown}
-use Rattle.cs_more.proofs.excerpts.excerpt.Goals as goal
+use Rattle.cs_more.proofs.excerpts.excerpt_of.Goals as goal
 
 pub returns-then-is_empty : goal.returns-then-is_empty
 returns-then-is_empty c =
-    let own = c.in_ok-words.ensures.ok ∙ ap words c.as_str.ensures in
     let ws : List (List ℕ) = c.in_ok-words.words in
     let marks = c.in_ok-marks.ensures.ok ∙ ap (λ v. textual (map (part_marks v) (filter is_positive c.as_slice-2.result.now))) c.as_slice.ensures ∙ ap (λ ps. textual (map (part_marks ws) (filter is_positive ps))) c.as_slice-2.ensures in
     let long : vec_len c.in_ok-marks.marks ≡ length c.in_ok-marks.marks.items = omega (arith, c.in_ok-marks.marks.ok) in
-    record { ok = none_marked c.args.query.now c.args.doc.now ws c.in_ok-marks.marks.items c.is_empty.result own marks (c.is_empty.ensures ∙ ap (λ n. n == 0) long) c.new.result c.new.ensures c.if-is_empty.true }
+    record { ok = λ doc same. none_marked c.args.query.now doc ws c.in_ok-marks.marks.items c.is_empty.result (c.in_ok-words.ensures.ok ∙ ap words (sym same)) marks (c.is_empty.ensures ∙ ap (λ n. n == 0) long) c.new.result c.new.ensures c.if-is_empty.true }
 
 pub returns-in_default : goal.returns-in_default
 returns-in_default c =
-    let own = c.in_ok-words.ensures.ok ∙ ap words c.as_str.ensures in
     let ws : List (List ℕ) = c.in_ok-words.words in
     let ms : List (List Bool) = c.in_ok-marks.marks.items in
     let marks = c.in_ok-marks.ensures.ok ∙ ap (λ v. textual (map (part_marks v) (filter is_positive c.as_slice-2.result.now))) c.as_slice.ensures ∙ ap (λ ps. textual (map (part_marks ws) (filter is_positive ps))) c.as_slice-2.ensures in
     let long : vec_len c.in_ok-marks.marks ≡ length c.in_ok-marks.marks.items = omega (arith, c.in_ok-marks.marks.ok) in
     record {
-      ok = run_shown c.args.query.now c.args.doc.now ws ms c.is_empty.result own marks (c.is_empty.ensures ∙ ap (λ n. n == 0) long) c.new-in_default.result (option_map places_of c.in_ok-run.field-0) c.len.result c.if-is_empty.false c.len.ensures
+      ok = λ doc same. run_shown c.args.query.now doc ws ms c.is_empty.result (c.in_ok-words.ensures.ok ∙ ap words (sym same)) marks (c.is_empty.ensures ∙ ap (λ n. n == 0) long) c.new-in_default.result (option_map places_of c.in_ok-run.field-0) c.len.result c.if-is_empty.false c.len.ensures
           (c.in_ok-run.ensures.ok ∙ ap (λ p. shortest p c.len.result) c.deref.ensures.value) (c.new-in_default.ensures ∙ ap (λ o. shown_run ws ms (option_map places_of o)) (sym c.in_default.is));
     }
 
@@ -39,13 +37,12 @@ run_text-requires c =
 
 pub returns : goal.returns
 returns c =
-    let own = c.in_ok-words.ensures.ok ∙ ap words c.as_str.ensures in
     let ws : List (List ℕ) = c.in_ok-words.words in
     let ms : List (List Bool) = c.in_ok-marks.marks.items in
     let marks = c.in_ok-marks.ensures.ok ∙ ap (λ v. textual (map (part_marks v) (filter is_positive c.as_slice-2.result.now))) c.as_slice.ensures ∙ ap (λ ps. textual (map (part_marks ws) (filter is_positive ps))) c.as_slice-2.ensures in
     let long : vec_len c.in_ok-marks.marks ≡ length c.in_ok-marks.marks.items = omega (arith, c.in_ok-marks.marks.ok) in
     record {
-      ok = run_shown c.args.query.now c.args.doc.now ws ms c.is_empty.result own marks (c.is_empty.ensures ∙ ap (λ n. n == 0) long) c.in_ok-text.text (option_map places_of c.in_ok-run.field-0) c.len.result c.if-is_empty.false c.len.ensures
+      ok = λ doc same. run_shown c.args.query.now doc ws ms c.is_empty.result (c.in_ok-words.ensures.ok ∙ ap words (sym same)) marks (c.is_empty.ensures ∙ ap (λ n. n == 0) long) c.in_ok-text.text (option_map places_of c.in_ok-run.field-0) c.len.result c.if-is_empty.false c.len.ensures
           (c.in_ok-run.ensures.ok ∙ ap (λ p. shortest p c.len.result) c.deref.ensures.value)
           (c.in_ok-text.ensures.ok ∙ ap (λ v. run_text v c.deref-2.result.now (places_of c.in-Some.run')) c.as_slice-3.ensures ∙ ap (λ m. run_text ws m (places_of c.in-Some.run')) c.deref-2.ensures.value ∙ ap (λ o. shown_run ws ms (option_map places_of o)) (sym c.in-Some.is));
     }
