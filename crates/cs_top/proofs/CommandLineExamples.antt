@@ -7,10 +7,15 @@ use Rattle.cs_model_sources.specs.declared.flat.Why.TheVariants.{Header, Field}
 use Rattle.cs_top.specs.CommandLine.{command_of, build, ask, serve, trial, upgrade, merge, refused, absent, line_of}
 use Rattle.cs_top.specs.Import.{of_collection, of_csv, of_jsonl, refused_words}
 use Rattle.cs_top.specs.declared.words.Form.TheVariants as forms
+use Rattle.cs_top.specs.declared.words.HitForm.TheVariants as hits
 
 -- the command line's table
-words-ask : command_of (codes "ask" ∷ codes "C" ∷ codes "Q" ∷ []) ≡ Some (ask (codes "C") (codes "Q"))
+words-ask : command_of (codes "ask" ∷ codes "C" ∷ codes "Q" ∷ []) ≡ Some (ask hits.Titled (codes "C") (codes "Q"))
 words-ask = refl
+
+-- with excerpts it is asked by another word
+words-excerpts : command_of (codes "excerpts" ∷ codes "C" ∷ codes "Q" ∷ []) ≡ Some (ask hits.Excerpted (codes "C") (codes "Q"))
+words-excerpts = refl
 
 -- a form's name stands behind `import`
 words-import : command_of (codes "import" ∷ codes "csv" ∷ codes "T" ∷ codes "I" ∷ []) ≡ Some (build forms.Csv (codes "T") (codes "I"))
