@@ -1,5 +1,5 @@
 //! Reading the documents and the words of a block's rows, without positions and scores.
-ghost use Rattle.std.specs.Prelude.{◌≡◌, ◌≤◌, true, List, ℕ, length, Some, Err, IfErr, IfNone, IfSome, OnOk};
+ghost use Rattle.std.specs.Prelude.{◌≡◌, ◌≤◌, true, List, ℕ, [], length, Some, Err, IfErr, IfNone, IfSome, OnErr, OnOk};
 ghost use Rattle.cs_base.specs.declared.content.scores.Weights.{Weights};
 ghost use Rattle.cs_model_index.specs.{BlockRules.{judged}, Blocks.{IsShaped}};
 ghost use Rattle.cs_block.specs.{BlockReading.{Decodes}, DocWords.{HasDocWords, HasFront, IsFront, ListsFront, front_bytes}};
@@ -22,7 +22,7 @@ pub fn front_len(head: &BlockHead) -> u32
 
 /// Puts the documents and the words of a block's rows into two columns, in place of what these hold. They stand in front of its
 /// positions, so `bytes` may be as few as `front_len` says, of those with which the block begins. The fault is the rule that they
-/// break first, from 13 to 15, and so the block does, or that memory ran out; then the columns hold anything.
+/// break first, from 13 to 15, and so the block does, or that memory ran out; then the columns hold nothing.
 pub fn read_doc_words(
     bytes: &[u8],
     head: &BlockHead,
@@ -34,6 +34,29 @@ pub fn read_doc_words(
     requires front { front_bytes head.now ≤ length bytes.now }
 
     // of each block that begins so, whatever the rows of its collection count for
+    ensures ok { OnOk result ((block : List ℕ) → HasFront head.now bytes.now block → HasDocWords head.now docs block into_docs.new.items into_words.new.items) }
+    ensures exact { IfErr result (λ fault. (w : Weights) (block : List ℕ) → HasFront head.now bytes.now block → Decodes (Err fault) (judged w head.now docs block)) }
+    ensures err { OnErr result ((into_docs.new.items ≡ []) × (into_words.new.items ≡ [])) }
+{
+    let put = put_doc_words(bytes, head, docs, into_docs, into_words);
+    if put.is_err() {
+        into_docs.truncate(0);
+        into_words.truncate(0);
+    }
+    put
+}
+
+// The same, with anything in the columns behind a fault.
+fn put_doc_words(
+    bytes: &[u8],
+    head: &BlockHead,
+    docs: u32,
+    into_docs: &mut Vec<u32>,
+    into_words: &mut Vec<u32>,
+) -> Result<(), BlockFault>
+    requires shaped { IsShaped head.now head.now.len }
+    requires front { front_bytes head.now ≤ length bytes.now }
+
     ensures ok { OnOk result ((block : List ℕ) → HasFront head.now bytes.now block → HasDocWords head.now docs block into_docs.new.items into_words.new.items) }
     ensures exact { IfErr result (λ fault. (w : Weights) (block : List ℕ) → HasFront head.now bytes.now block → Decodes (Err fault) (judged w head.now docs block)) }
 {

@@ -1,6 +1,6 @@
 //! Reading those rows of a block that are sought: of some words, in listed documents. Of the others no position and no score is
 //! looked at.
-ghost use Rattle.std.specs.Prelude.{◌≡◌, ◌+◌, ◌^◌, ◌<◌, ◌≤◌, ◌&&◌, ◌++◌, false, true, nat_le, nat_lt, length, map, take, filter, slice_index_or, IfOk};
+ghost use Rattle.std.specs.Prelude.{◌≡◌, ◌+◌, ◌^◌, ◌<◌, ◌≤◌, ◌&&◌, ◌++◌, false, true, nat_le, nat_lt, [], length, map, take, filter, slice_index_or, IfOk, OnErr};
 ghost use Rattle.std.specs.List.{All};
 ghost use Rattle.cs_base.specs.declared.content.limits.TheConstants.{MAX_WORDS};
 ghost use Rattle.cs_model_index.specs.Blocks.{IsShaped};
@@ -32,8 +32,32 @@ struct Wanted<'a> {
 /// Puts the rows of a block in listed documents whose word's number is `words.0` or more and below `words.1` into a list, and the
 /// documents of all rows into a column, in place of what these hold. False, with anything in them, where a code doesn't stand, a
 /// document isn't in range, or a row that is sought isn't of the block's kind in a collection of these weights, which never comes of
-/// bytes that keep the rules.
+/// bytes that keep the rules. Where memory runs out both hold nothing.
 pub fn read_sought(
+    bytes: &[u8],
+    head: &BlockHead,
+    weights: Weights,
+    words: (u32, u32),
+    listed: &[bool],
+    docs: &mut Vec<u32>,
+    into: &mut Vec<Post>,
+) -> Result<bool, Memory>
+    requires shaped { IsShaped head.now (length bytes.now) }
+    requires few { length listed.now < 2 ^ 32 }
+
+    ensures ok { IfOk result (λ whole. whole ≡ true → HasSought weights head.now bytes.now words.0 words.1 listed.now into.new.items) }
+    ensures err { OnErr result ((docs.new.items ≡ []) × (into.new.items ≡ [])) }
+{
+    let put = put_sought(bytes, head, weights, words, listed, docs, into);
+    if put.is_err() {
+        docs.truncate(0);
+        into.truncate(0);
+    }
+    put
+}
+
+// The same, with anything in both where memory runs out.
+fn put_sought(
     bytes: &[u8],
     head: &BlockHead,
     weights: Weights,

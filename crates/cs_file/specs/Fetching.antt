@@ -5,10 +5,11 @@
 --   IsBlockAt i k placed      what is known of block k
 --   CanBeJudged placed len    a block of so many bytes can be read by its rules
 --   HasScored placed read f   columns have the documents, words and scores of the posts of a block whose bytes were read
+--   HoldsNone f               columns have no posts
 --   IsFaultAt at broken e     the fault where this is the first rule that a block at a place breaks, if there is one
 --   IsFaultOf placed bytes e     the same of the bytes of a block
 --   ReadsText bytes at r      the text of these bytes, or that rule 9 is broken at the place
-use Rattle.std.specs.Prelude.{◌≡◌, ℕ, ◌^◌, ◌<◌, true, false, List, length, slice_index_or, Option, Some, Result, Ok, Err}
+use Rattle.std.specs.Prelude.{◌≡◌, ℕ, ◌^◌, ◌<◌, true, false, List, [], length, slice_index_or, Option, Some, Result, Ok, Err}
 use Rattle.std.specs.Option.{option_map}
 use Rattle.std.specs.Str.{is_utf8}
 use Rattle.cs_base.specs.declared.index.block.BlockHead.{BlockHead}
@@ -46,6 +47,10 @@ pub record CanBeJudged (placed : Placed) (len : ℕ) : Type 0 where
 pub record HasScored (placed : Placed) (read : List ℕ) (f : Fetched) : Type 0 where
   pub listed : HasDocWords placed.head placed.docs read f.docs.items f.words.items
   pub scored : HasScores placed.weights placed.head read f.scores.items
+
+-- whatever bytes are there
+abbrev pub HoldsNone : Fetched → Type 0
+HoldsNone f = (f.docs.items ≡ []) × ((f.words.items ≡ []) × (f.scores.items ≡ []))
 
 -- of a failed read and of want of memory nothing is said
 abbrev pub IsFaultAt : ℕ → Option Broken → FetchFault → Type 0

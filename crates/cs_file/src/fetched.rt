@@ -1,4 +1,7 @@
 //! What a block is read into.
+ghost use Rattle.std.specs.Prelude.{◌≡◌, []};
+ghost use Rattle.cs_file.specs.Fetching.{HoldsNone};
+
 use std::alloc::Global;
 
 /// The posts of a block without their positions, column by column, in memory that is used again for the next block.
@@ -23,5 +26,14 @@ impl Fetched {
             scores: Vec::new(alloc),
             bytes: Vec::new(alloc),
         }
+    }
+
+    /// Lets the posts go. The bytes stay.
+    pub(crate) fn clear(&mut self)
+        ensures { HoldsNone self.new }
+    {
+        self.docs.truncate(0);
+        self.words.truncate(0);
+        self.scores.truncate(0);
     }
 }

@@ -11,7 +11,7 @@ ghost use Rattle.cs_block.specs.BlockReading.{Decodes};
 ghost use Rattle.cs_block.specs.DocWords.{HasDocWords, HasFront, front_bytes};
 ghost use Rattle.cs_model_index.specs.BlockRules.{IsBlock};
 ghost use Rattle.cs_file.specs.CallAnswers.{AreScoredOf, IsBlockOf, IsChangeOfBlock, IsChangeOfTitle, LeavesStore, is_read, is_changed};
-ghost use Rattle.cs_file.specs.Fetching.{CanBeJudged, HasScored, IsBlockAt, IsFaultAt, IsFaultOf, ReadsText};
+ghost use Rattle.cs_file.specs.Fetching.{CanBeJudged, HasScored, HoldsNone, IsBlockAt, IsFaultAt, IsFaultOf, ReadsText};
 ghost use Rattle.cs_file.specs.Indexes.{StandsFor, HasAllBlocks, CausedReads, block_place, block_posts, title_in, title_place, title_len};
 
 use crate::fault::FetchFault;
@@ -62,7 +62,7 @@ impl Index {
     }
 
     /// Reads the documents, the words and the scores of the posts of block `k` in place of those that `into` holds, from the store
-    /// from which the index was opened. Positions aren't looked at. Where it fails `into` holds anything.
+    /// from which the index was opened. Positions aren't looked at. Where it fails `into` holds none.
     pub fn fetch_scored<S: Store>(
         &self,
         alloc: Global,
@@ -81,12 +81,18 @@ impl Index {
         ensures scores { OnOk result (All (λ s. (1 ≤ s) × (s ≤ MAX_ROW_SCORE)) into.new.scores.items) }
         ensures stood { ForSome (S.bytes store.old) (λ b. StandsFor b self.now
             → OnOk result (AreScoredOf (block_posts b k) into.new.docs.items into.new.words.items into.new.scores.items)) }
+        ensures err { OnErr result (HoldsNone into.new) }
         ensures store { LeavesStore S.bytes S.lent S.faults self.now (IsChangeOfBlock self.now (S.bytes store.old) k) store.old store.new result }
         ensures reads { ReadsWithin 1 (S.reads store.old) (S.reads store.new) }
     {
         let placed = self.placed(k);
-        read_over(store, placed.at, placed.head.len, &mut into.bytes)?;
-        scored_at(alloc, &placed, into)
+        match read_over(store, placed.at, placed.head.len, &mut into.bytes) {
+            Ok(()) => scored_at(alloc, &placed, into),
+            Err(fault) => {
+                into.clear();
+                Err(fault)
+            }
+        }
     }
 
     /// The title of a document, read from the store from which the index was opened.
@@ -209,9 +215,24 @@ fn file_fault(fault: BlockFault, at: u64) -> FetchFault
     }
 }
 
-// Puts the documents, the words and the scores of the posts of a block, whose bytes were read, into columns. Where a score isn't of
-// the block's kind, the block is decoded.
+// Puts the documents, the words and the scores of the posts of a block, whose bytes were read, into columns.
 fn scored_at(alloc: Global, placed: &Placed, into: &mut Fetched) -> Result<(), FetchFault>
+    requires { CanBeJudged placed.now (length into.old.bytes.items) }
+
+    ensures ok { OnOk result (HasScored placed.now into.old.bytes.items into.new) }
+    ensures err { OnErr result (HoldsNone into.new) }
+    ensures exact { IfErr result (λ fault. IsFaultOf placed.now into.old.bytes.items fault) }
+    ensures unread { is_read result ≡ false }
+{
+    let put = put_scored(alloc, placed, into);
+    if put.is_err() {
+        into.clear();
+    }
+    put
+}
+
+// The same, with anything in the columns behind a fault. Where a score isn't of the block's kind, the block is decoded.
+fn put_scored(alloc: Global, placed: &Placed, into: &mut Fetched) -> Result<(), FetchFault>
     requires { CanBeJudged placed.now (length into.old.bytes.items) }
 
     ensures ok { OnOk result (HasScored placed.now into.old.bytes.items into.new) }

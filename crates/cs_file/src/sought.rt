@@ -1,5 +1,5 @@
 //! Reading those posts of a block that are sought: of some words, in listed documents.
-ghost use Rattle.std.specs.Prelude.{◌≡◌, ◌<◌, ◌≤◌, ◌++◌, false, true, filter, length, IfErr, OnOk};
+ghost use Rattle.std.specs.Prelude.{◌≡◌, ◌<◌, ◌≤◌, ◌++◌, false, true, [], filter, length, IfErr, OnErr, OnOk};
 ghost use Rattle.std.specs.List.{All};
 ghost use Rattle.std.specs.Option.{ForSome};
 ghost use Rattle.cs_base.specs.outside.Causes.{ReadsWithin};
@@ -41,7 +41,7 @@ impl Sought {
 impl Index {
     /// Reads the posts of block `k` in listed documents whose word's number is `words.0` or more and below `words.1`, in place of those
     /// that `into` holds, from the store from which the index was opened. That they are in order isn't looked at, and of other posts
-    /// no position and no score. Where it fails `into` holds anything.
+    /// no position and no score. Where it fails `into` holds none.
     pub fn fetch_sought<S: Store>(
         &self,
         alloc: Global,
@@ -61,17 +61,46 @@ impl Index {
         ensures sought { OnOk result (All (λ p. is_sought words.0 words.1 listed.now p ≡ true) into.new.posts.items) }
         ensures stood { ForSome (S.bytes store.old) (λ b. StandsFor b self.now
             → OnOk result (into.new.posts.items ≡ filter (is_sought words.0 words.1 listed.now) (block_posts b k))) }
+        ensures err { OnErr result (into.new.posts.items ≡ []) }
         ensures store { LeavesStore S.bytes S.lent S.faults self.now (IsChangeOfBlock self.now (S.bytes store.old) k) store.old store.new result }
         ensures reads { ReadsWithin 1 (S.reads store.old) (S.reads store.new) }
     {
         let placed = self.placed(k);
-        read_over(store, placed.at, placed.head.len, &mut into.bytes)?;
-        sought_at(alloc, &placed, words, listed, into)
+        match read_over(store, placed.at, placed.head.len, &mut into.bytes) {
+            Ok(()) => sought_at(alloc, &placed, words, listed, into),
+            Err(fault) => {
+                into.posts.truncate(0);
+                Err(fault)
+            }
+        }
     }
 }
 
-// Puts the posts of a block that are sought, whose bytes were read, into a list. Where a test fails the block is decoded.
+// Puts the posts of a block that are sought, whose bytes were read, into a list.
 fn sought_at(
+    alloc: Global,
+    placed: &Placed,
+    words: (u32, u32),
+    listed: &[bool],
+    into: &mut Sought,
+) -> Result<(), FetchFault>
+    requires judged { CanBeJudged placed.now (length into.old.bytes.items) }
+    requires listed { length listed.now ≡ placed.now.docs }
+
+    ensures ok { OnOk result (HasSought placed.now.weights placed.now.head into.old.bytes.items words.0 words.1 listed.now into.new.posts.items) }
+    ensures err { OnErr result (into.new.posts.items ≡ []) }
+    ensures exact { IfErr result (λ fault. IsFaultOf placed.now into.old.bytes.items fault) }
+    ensures unread { is_read result ≡ false }
+{
+    let put = put_sought(alloc, placed, words, listed, into);
+    if put.is_err() {
+        into.posts.truncate(0);
+    }
+    put
+}
+
+// The same, with anything in the list behind a fault. Where a test fails the block is decoded.
+fn put_sought(
     alloc: Global,
     placed: &Placed,
     words: (u32, u32),

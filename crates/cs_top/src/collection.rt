@@ -84,7 +84,7 @@ pub(crate) fn image_of(alloc: Global, bytes: &[u8]) -> Result<Imaged, Collection
     })
 }
 
-/// The documents of a collection that is accepted, lent from its bytes.
+/// The documents of a collection that is accepted, lent from its bytes: nothing but want of memory keeps them from being read.
 pub(crate) fn documents_of(alloc: Global, bytes: &[u8]) -> Result<Vec<LentDoc<'_>>, Memory>
     requires accepted { refusal bytes.now ≡ None }
 
@@ -93,7 +93,17 @@ pub(crate) fn documents_of(alloc: Global, bytes: &[u8]) -> Result<Vec<LentDoc<'_
 {
     match lent_docs(alloc, bytes) {
         Ok(collected) => Ok(collected.docs),
-        Err(_) => Err(Memory),
+        Err(fault) => Err(want_of(CollectionFault::Documents(fault))),
+    }
+}
+
+/// Want of memory, which a fault is that names no refusal.
+pub(crate) fn want_of(fault: CollectionFault) -> Memory
+    requires { collection_refusal_of fault ≡ None }
+{
+    match fault.reason() {
+        None => Memory,
+        Some(_) => unreachable!(),
     }
 }
 

@@ -7,10 +7,9 @@ ghost use Rattle.cs_model_trial.specs.Summary.{IsSummary};
 ghost use Rattle.cs_query.specs.RequestView.{asked};
 ghost use Rattle.cs_top.specs.{CommandLine.{CausedBy, is_number}, Filed.{HasFile, IsFiled}, Met.{wrote}, Views.{ended}};
 ghost use Rattle.cs_top.specs.Trial.{AreFew, HasAsked, HasSizes, IsSteady, TrialEnds, sizes_of, with_one_reply};
-ghost use Rattle.cs_top.specs.Views.{collection_refusal_of};
 ghost use Rattle.cs_trial.specs.declared.counts.Counts.{Counts};
 
-use crate::collection::{CollectionFault, Imaged, image_of};
+use crate::collection::{Imaged, image_of, want_of};
 use crate::ending::RunStop;
 use crate::opening::open_image;
 use crate::words::trial_of;
@@ -67,16 +66,6 @@ fn imaged(alloc: Global, bytes: &[u8]) -> Result<Imaged, Memory>
     match image_of(alloc, bytes) {
         Ok(imaged) => Ok(imaged),
         Err(fault) => Err(want_of(fault)),
-    }
-}
-
-// Want of memory, which a fault is that names no refusal.
-fn want_of(fault: CollectionFault) -> Memory
-    requires { collection_refusal_of fault ≡ None }
-{
-    match fault.reason() {
-        None => Memory,
-        Some(_) => unreachable!(),
     }
 }
 

@@ -28,7 +28,7 @@ gathered g = map (λ n. slice_index_or g.words.items n []) g.indices.items
 abbrev pub AreWordSlots : List ℕ → Type 0
 AreWordSlots ns = (1 ≤ length ns) × (length ns ≤ MAX_SLOTS)
 
--- so it is before any came, and behind each push that found memory
+-- so it is before any came, and behind each push
 pub record IsGathering (g : Gathering) : Type 0 where
   pub members : members_in (slice_cmp nat_cmp) g.words.items ≡ members_in (slice_cmp nat_cmp) (gathered g)
   pub below : All (IsBelow (length g.words.items)) g.indices.items

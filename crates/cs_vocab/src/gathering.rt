@@ -1,5 +1,5 @@
 //! Words as they come, before they are sorted, most of them kept once.
-ghost use Rattle.std.specs.Prelude.{◌≡◌, ◌≤◌, ◌<◌, ◌^◌, [], ◌∷◌, ◌++◌, IfOk, IfErr, OnOk, length, map};
+ghost use Rattle.std.specs.Prelude.{◌≡◌, ◌≤◌, ◌<◌, ◌^◌, [], ◌∷◌, ◌++◌, IfOk, IfErr, OnErr, OnOk, length, map};
 ghost use Rattle.cs_base.specs.declared.content.limits.TheConstants.{MAX_ROWS, MAX_WORD_BYTES};
 ghost use Rattle.cs_vocab.specs.Ranges.{IsWordAt};
 ghost use Rattle.cs_vocab.specs.Gathering.{AreWordSlots, HasTaken, IsGathering, gathered};
@@ -65,7 +65,7 @@ impl Gathering {
         self.indices.len()
     }
 
-    /// Adds the word of these bytes at the end. Where memory runs out, the gathering is of no more use.
+    /// Adds the word of these bytes at the end. Where memory runs out, the gathering is as it was.
     #[inline]
     pub fn push(&mut self, alloc: Global, word: &[u8]) -> Result<(), Memory>
         requires is { IsGathering self.old }
@@ -74,10 +74,12 @@ impl Gathering {
         requires few_bytes { length word.now ≤ MAX_WORD_BYTES }
 
         ensures word { OnOk result (gathered self.new ≡ gathered self.old ++ word.now ∷ []) }
-        ensures is { OnOk result (IsGathering self.new) }
+        ensures err { OnErr result (gathered self.new ≡ gathered self.old) }
+        ensures is { IsGathering self.new }
     {
+        self.indices.reserve(1)?;
         let index = index_of(alloc, &mut self.words, &mut self.slots, word)?;
-        self.indices.push(index)?;
+        self.indices.push_reserved(index);
         Ok(())
     }
 }
@@ -111,7 +113,8 @@ fn index_of(
 
     ensures at { IfOk result (λ n. IsWordAt words.new.items n word.now) }
     ensures taken { OnOk result (HasTaken words.old.items words.new.items word.now) }
-    ensures slots { OnOk result (AreWordSlots slots.new.items) }
+    ensures err { OnErr result (words.new.items ≡ words.old.items) }
+    ensures slots { AreWordSlots slots.new.items }
 {
     match look(words.as_slice(), slots.as_slice(), word) {
         Ok(index) => Ok(index),
@@ -119,7 +122,7 @@ fn index_of(
     }
 }
 
-// Adds a word behind all others, and its index in a slot.
+// Adds a word behind all others, and its index in a slot. Where there is no memory for more slots, it goes on with those there are.
 #[inline(never)]
 fn add(
     alloc: Global,
@@ -136,13 +139,17 @@ fn add(
 
     ensures at { IfOk result (λ n. IsWordAt words.new.items n word.now) }
     ensures taken { OnOk result (HasTaken words.old.items words.new.items word.now) }
-    ensures slots { OnOk result (AreWordSlots slots.new.items) }
+    ensures err { OnErr result (words.new.items ≡ words.old.items) }
+    ensures slots { AreWordSlots slots.new.items }
 {
     let index = words.len() as u32;
     words.push(Word::new(alloc, word)?)?;
     slots[slot] = index;
     if words.len() > slots.len() / SLOTS_A_WORD && slots.len() < MAX_SLOTS {
-        *slots = slots_for(alloc, words.as_slice(), MAX_SLOTS.min(GROWTH * slots.len()))?;
+        let count = MAX_SLOTS.min(GROWTH * slots.len());
+        if let Ok(more) = slots_for(alloc, words.as_slice(), count) {
+            *slots = more;
+        }
     }
     Ok(index)
 }

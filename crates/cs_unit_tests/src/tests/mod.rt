@@ -1,6 +1,7 @@
 //! Each file has the tests of one crate, or of one of its calls; `rows` has what they share.
 mod blocks;
 mod columns;
+mod damage;
 mod docs;
 mod excerpts;
 mod gaps;

@@ -4,7 +4,7 @@ use Rattle.cs_base.specs.declared.content.doc.Post.{Post}
 use Rattle.cs_block.specs.Sought.{is_sought}
 use Rattle.cs_model_index.specs.BlockRules.{IsBlock}
 use Rattle.cs_file.proofs.SoughtPosts.{decoded_known, decoded_sought}
-use Rattle.cs_file.proofs.sought.sought_at.Goals as goal
+use Rattle.cs_file.proofs.sought.put_sought.Goals as goal
 
 pub seek_rows-requires : goal.seek_rows-requires
 seek_rows-requires c =

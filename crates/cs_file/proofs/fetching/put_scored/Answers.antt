@@ -3,7 +3,7 @@ use Rattle.cs_model_index.specs.BlockRules.{IsBlock}
 use Rattle.cs_file.specs.Fetching.{IsFaultOf}
 use Rattle.cs_file.proofs.FetchLemmas.{fault_along}
 use Rattle.cs_file.proofs.ScoredLemmas.{decoded_scores}
-use Rattle.cs_file.proofs.fetching.scored_at.Goals as goal
+use Rattle.cs_file.proofs.fetching.put_scored.Goals as goal
 
 pub returns-in_err-doc_words_at-clause-exact : goal.returns-in_err-doc_words_at-clause-exact
 returns-in_err-doc_words_at-clause-exact c =

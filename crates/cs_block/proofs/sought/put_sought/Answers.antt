@@ -8,7 +8,7 @@ use Rattle.cs_block.specs.RowRuns.{HasDocs}
 use Rattle.cs_block.specs.Sought.{IsOfBlock, is_sought, passes, rows_with}
 use Rattle.cs_block.proofs.KnownRows.{rows_known}
 use Rattle.cs_block.proofs.SoughtLemmas.{docs_there, refilled, sought_all}
-use Rattle.cs_block.proofs.sought.read_sought.Goals as goal
+use Rattle.cs_block.proofs.sought.put_sought.Goals as goal
 
 pub returns : goal.returns
 returns c =
