@@ -1,10 +1,5 @@
--- Facets whose rows are held: which are there, and what is counted of them.
+-- The rows of a facet: what is counted of them.
 --
---   held_at          the facet of a name that stands at a place of a list of held names is held
---   found_holds, found_passes, not_found     what is found by a name
---   left_all         what holds of all held ones where all may have been forgotten
---   all_more, held_last, held_more     one more is held
---   AreThere         the first n of some names are held: none_there, there_more, all_there
 --   chosen_facet     the rows of a facet that are counted
 --   chosen_kept      the same of those of them that were looked up by the hits
 --   known_docs, known_kept     the documents of a facet, and of rows that were looked up, are those of the index
@@ -33,77 +28,10 @@ use Rattle.cs_meet.specs.Filters.{is_of_doc, keep_docs}
 use Rattle.cs_model_kept.proofs.HeldLemmas.{found_any}
 use Rattle.cs_tables.specs.WordCounts.{AreCountable, HasCounted, WordCountsView, chosen, is_chosen}
 use Rattle.cs_engine.specs.Counting.{AreListed, in_listed}
-use Rattle.cs_engine.specs.HeldFacets.{FacetView, has_facet}
 use Rattle.cs_engine.specs.IndexReading.{AreWithin, IsWithin}
 use Rattle.cs_engine.specs.Stocked.{docs_in, is_between}
 use Rattle.cs_engine.proofs.CountingLemmas.{kept_listed}
 use Rattle.cs_engine.proofs.RowsInRange.{kept_within}
-
--- ---- which are held
-pub held_at : (held : List FacetView) (names items : List (List ℕ)) {n : ℕ} {name : List ℕ} → All (λ m. has_facet held m ≡ true) names → items ≡ names
-    → n < length items → name ≡ get_or items n name → has_facet held name ≡ true
-held_at held names items {n} {name} there are lt is =
-    subst (λ m. has_facet held m ≡ true) (sym is) (subst (All (λ m. has_facet held m ≡ true)) (sym are) there n name lt)
-
-pub found_holds : {V : Type 0} (P : V → Type 0) (p : V → Bool) (held : List V) (f : V) → find p held ≡ Some f → All P held → P f
-found_holds P p [] f e h = absurd (false≢true (ap is_some e))
-found_holds P p (x ∷ held) f e h =
-    elim (p x) as (λ b. cond b (Some x) (find p held) ≡ Some f → P f) [
-      | true ↦ λ e. subst P (same_Some _ _ e) (All-head P x held h)
-      | false ↦ λ e. found_holds P p held f e (All-tail P x held h)
-    ] e
-
-pub found_passes : {V : Type 0} (p : V → Bool) (held : List V) (f : V) → find p held ≡ Some f → p f ≡ true
-found_passes p [] f e = absurd (false≢true (ap is_some e))
-found_passes p (x ∷ held) f e =
-    elim (p x) as (λ b. p x ≡ b → cond b (Some x) (find p held) ≡ Some f → p f ≡ true) [
-      | true ↦ λ is e. ap p (sym (same_Some _ _ e)) ∙ is
-      | false ↦ λ is e. found_passes p held f e
-    ] refl e
-
-pub not_found : (held : List FacetView) (n : List ℕ) → has_facet held n ≡ true → find (λ f. bytes_eq f.name n) held ≡ None → ⊥
-not_found held n has none = false≢true (ap is_some (sym none) ∙ found_any (λ f. bytes_eq f.name n) held ∙ has)
-
-pub left_all : {V : Type 0} (P : V → Type 0) {old new : List V} → (new ≡ old) ⊎ (new ≡ []) → All P old → All P new
-left_all P (inl same) h = subst (All P) (sym same) h
-left_all P (inr none) h = subst (All P) (sym none) (All-nil P)
-
--- one more is held
-pub all_more : {V : Type 0} (P : V → Type 0) (held : List V) (f : V) → All P held → P f → All P (held ++ f ∷ [])
-all_more P held f h one = All-append P held (f ∷ []) h (All-cons P f [] one (All-nil P))
-
-pub held_last : (held : List FacetView) (f : FacetView) (n : List ℕ) → f.name ≡ n → has_facet (held ++ f ∷ []) n ≡ true
-held_last held f n is =
-    list_any-append (λ f. bytes_eq f.name n) held (f ∷ [])
-    ∙ ap (λ b. has_facet held n || (b || false)) (ap (λ m. bytes_eq m n) is ∙ name_itself n) ∙ or_true (has_facet held n)
-  where
-    or_true : (b : Bool) → (b || (true || false)) ≡ true
-    or_true true = refl
-    or_true false = refl
-
-pub held_more : (held : List FacetView) (f : FacetView) (n : List ℕ) → has_facet held n ≡ true → has_facet (held ++ f ∷ []) n ≡ true
-held_more held f n was = list_any-append (λ f. bytes_eq f.name n) held (f ∷ []) ∙ ap (λ b. b || (bytes_eq f.name n || false)) was
-
--- the first n of some names are held
-abbrev pub AreThere : List FacetView → List (List ℕ) → ℕ → Type 0
-AreThere held names n = (k : ℕ) → k < n → k < length names → has_facet held (get_or names k []) ≡ true
-
-pub none_there : (held : List FacetView) (names : List (List ℕ)) → AreThere held names 0
-none_there held names k lt l = absurd (omega (arith, lt))
-
-pub there_more : (held new : List FacetView) (names : List (List ℕ)) {n : ℕ} {name : List ℕ} → n < length names → name ≡ get_or names n name
-    → AreThere held names n → ((m : List ℕ) → has_facet held m ≡ true → has_facet new m ≡ true) → has_facet new name ≡ true → AreThere new names (n + 1)
-there_more held new names {n} {name} inside is there others own k lt l =
-    elim (nat_lt k n) as (λ c. nat_lt k n ≡ c → has_facet new (get_or names k []) ≡ true) [
-      | true ↦ λ e. others (get_or names k []) (there k (ltb-true k n e) l)
-      | false ↦ λ e.
-          let up = ltb-false k n e in
-          let same : n ≡ k = omega (arith, lt, up) in
-          subst (λ m. has_facet new m ≡ true) (is ∙ get_or_default names n name [] inside ∙ ap (λ j. get_or names j []) same) own
-    ] refl
-
-pub all_there : (held : List FacetView) (names : List (List ℕ)) {n : ℕ} → length names ≤ n → AreThere held names n → All (λ m. has_facet held m ≡ true) names
-all_there held names le there k d l = subst (λ m. has_facet held m ≡ true) (get_or_default names k [] d l) (there k (omega (arith, l, le)) l)
 
 -- ---- which rows are counted
 all_pass : (t : Post → Bool) (posts : List Post) → All (λ p. t p ≡ true) posts → filter t posts ≡ posts

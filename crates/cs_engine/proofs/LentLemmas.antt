@@ -2,19 +2,19 @@
 --
 --   same_lent, extend_lent, narrow_lent      the entry that is lent is in range, and over the bytes the one that the plan speaks of
 --   narrow_typed         a prefix is being typed, and the rows that are lent are in range
+--   refusal_right        a refusal over the bytes of the index
+--   same_after           what is kept after a reply, whatever is held
 --   err_due              the titles that may be read where there is no reply
---   kept_reads, all_reads      the reads of a plan that reads no part, and of one that reads some
---   kept_reads_err, all_reads_err      the same where there is no reply
 use Rattle.std.proofs.Common.{◌≡◌, ℕ, ◌+◌, ◌≤◌, List, length, refl, sym, ap, subst, ◌∙◌, arith, Option, Some, None, IsSome}
 use Rattle.std.specs.Prelude.{filter, IfSome, Result, Ok, Err}
 use Rattle.std.specs.Result.{IsErr}
-use Rattle.cs_base.specs.outside.Causes.{ReadsWithin}
 use Rattle.cs_base.specs.declared.content.doc.Base.{Base}
 use Rattle.cs_base.specs.declared.content.doc.Post.{Post}
 use Rattle.cs_base.specs.declared.content.key.Keys.{Keys}
 use Rattle.cs_base.specs.declared.content.query.Query.{Query, out-Query}
 use Rattle.cs_base.specs.declared.index.plan.Plan.{Plan}
 use Rattle.cs_base.specs.declared.index.plan.Plan.TheVariants.{Same, Narrow, Extend, Fresh}
+use Rattle.cs_cache.specs.AnswerList.{AnswerList}
 use Rattle.cs_file.specs.Indexes.{IndexView}
 use Rattle.cs_model.specs.Answers.{begins}
 use Rattle.cs_model.specs.Keys.{keys_of, last_prefix}
@@ -27,12 +27,13 @@ use Rattle.cs_model_kept.specs.Entries.{EntryOf}
 use Rattle.cs_model_kept.specs.KeptList.{KeptOf, plan_by, used_entry}
 use Rattle.cs_model_kept.specs.KeptListLaws.{before_last}
 use Rattle.cs_engine.specs.Asking.{titles_asked}
-use Rattle.cs_engine.specs.Keeping.{FitsQuery, HoldsGood, IsEntryOver, IsPlanned, entry_with}
+use Rattle.cs_engine.specs.Keeping.{AnswersRight, AreGood, EngineView, FitsQuery, HoldsGood, IsAfter, IsEntryOver, IsPlanned, engine_with, entry_with}
 use Rattle.cs_engine.specs.IndexReading.{AreWithin}
 use Rattle.cs_file.specs.declared.fault.FetchFault.{FetchFault}
+use Rattle.cs_engine.specs.declared.held.HeldRange.{HeldRange}
+use Rattle.cs_engine.specs.declared.note.Note.{Note}
 use Rattle.cs_engine.proofs.KeepingLemmas.{extend_fits, extend_told, narrow_fits, narrow_told, narrowed_fits, same_fits, same_told}
 use Rattle.cs_engine.proofs.PlansLemmas.{Viewed, is_used, viewed}
-use Rattle.cs_engine.proofs.WalkLemmas.{within_more}
 
 -- ---- what is lent
 module _ {i : IndexView} {held : KeptOf (EntryOf Post)} {q : Query} {keys : Keys} {by_plan : Plan} (g : IsOfGrammar q)
@@ -107,21 +108,13 @@ pub err_due : {T : Type 0} (q : Request) (r : Result (Reply × T) FetchFault) �
 err_due q (Ok r) h = absurd cc
 err_due q (Err e) h = refl
 
-module _ (v : Division) (q : Request) (by_plan : Plan) {before now : ℕ} where
-  pub kept_reads : (titles : ℕ) → ReadsWithin titles before now → ReadsWithin (titles + met_by v q.query by_plan) before now
-  kept_reads titles a = within_more a (omega arith)
+-- ---- refusals
+pub refusal_right : {b : List ℕ} {r : Request} {old new : EngineView} (a : Result (Reply × Note) FetchFault) → IsErr a → AreGood b new → AnswersRight b r old a new
+refusal_right (Ok x) h good = absurd cc
+refusal_right (Err e) h good = record { reply = tt; good = good; after = tt }
 
-  pub all_reads : (own : Plan) → by_plan ≡ own → (titles : ℕ) → ReadsWithin (titles + met_by v q.query own) before now
-      → ReadsWithin (titles + met_by v q.query by_plan) before now
-  all_reads own same titles a = subst (λ p. ReadsWithin (titles + met_by v q.query p) before now) (sym same) a
-
-  module _ {T : Type 0} (r : Result (Reply × T) FetchFault) (is : IsErr r) where
-    told_due : ReadsWithin (q.hits + met_by v q.query by_plan) before now → ReadsWithin (titles_asked q r + met_by v q.query by_plan) before now
-    told_due = subst (λ t. ReadsWithin (t + met_by v q.query by_plan) before now) (sym (err_due q r is))
-
-    pub kept_reads_err : ReadsWithin q.hits before now → ReadsWithin (titles_asked q r + met_by v q.query by_plan) before now
-    kept_reads_err a = told_due (kept_reads q.hits a)
-
-    pub all_reads_err : (own : Plan) → by_plan ≡ own → ReadsWithin (q.hits + met_by v q.query own) before now
-        → ReadsWithin (titles_asked q r + met_by v q.query by_plan) before now
-    all_reads_err own same a = told_due (all_reads own same q.hits a)
+-- what is kept after a reply doesn't speak of what is held
+pub same_after : (b : List ℕ) (q : Query) (old : EngineView) (i : IndexView) (x : AnswerList) (h h' : List HeldRange) (a : Result (Reply × Note) FetchFault)
+    → IsAfter b q old a (engine_with i x h) → IsAfter b q old a (engine_with i x h')
+same_after b q old i x h h' (Ok r) after = after
+same_after b q old i x h h' (Err e) after = tt

@@ -6,6 +6,7 @@ pub mod BehindLemmas
 pub mod BestLemmas
 pub mod BlockwiseLemmas
 pub mod ColonLemmas
+pub mod CountedRanges
 pub mod CountingLemmas
 pub mod DistinctLemmas
 pub mod EvaluationLemmas
@@ -22,6 +23,7 @@ pub mod PackingLemmas
 pub mod PlainParts
 pub mod PlansLemmas
 pub mod RowsInRange
+pub mod RangeLemmas
 pub mod ReplyLemmas
 pub mod PartSteps
 pub mod StockLemmas

@@ -3,10 +3,12 @@
 --   chosen_entry, entry_fits     the entry of the rows in order
 --   large_entry, is_large        where it is larger than may be kept
 --   found_counts   what is counted of rows by blocks gives the table of the query
-use Rattle.std.proofs.Common.{◌≡◌, ℕ, ◌+◌, ◌-◌, ◌<◌, Bool, true, false, List, length, refl, sym, ap, subst, ◌∙◌, arith, if◌then◌else◌}
+--   table_counted, table_there     that table
+use Rattle.std.proofs.Common.{◌≡◌, ℕ, ◌+◌, ◌-◌, ◌<◌, ◌≤◌, Bool, true, false, List, length, take, refl, sym, ap, subst, ◌∙◌, arith, if◌then◌else◌}
 use Rattle.std.specs.Prelude.{All, filter, nat_lt}
 use Rattle.std.specs.List.{list_any}
 use Rattle.std.proofs.lemmas.Bool.Decides.{nat_tests}
+use Rattle.std.proofs.lemmas.List.Elements.{All-weaker}
 use Rattle.cs_base.specs.declared.content.doc.Base.{Base}
 use Rattle.cs_base.specs.declared.content.doc.Post.{Post}
 use Rattle.cs_base.specs.declared.content.query.Query.{Query, out-Query}
@@ -16,12 +18,15 @@ use Rattle.cs_model_index.specs.Sections.{file_corpus}
 use Rattle.cs_model_kept.specs.Entries.{entry_of, listed_count}
 use Rattle.cs_model_kept.specs.KeptList.{kept_fresh}
 use Rattle.cs_model_kept.specs.declared.limits.TheConstants.{MAX_ENTRY_SIZE}
-use Rattle.cs_tables.specs.WordCounts.{WordCountsView}
+use Rattle.cs_tables.specs.TableListings.{post_table}
+use Rattle.cs_tables.specs.declared.tables.Completion.{Completion}
+use Rattle.cs_tables.specs.declared.tables.Table.{Table}
+use Rattle.cs_tables.specs.WordCounts.{AreCountable, HasCounted, WordCountsView}
 use Rattle.cs_meet.specs.Filters.{is_of_doc}
 use Rattle.cs_engine.specs.Blockwise.{HasFound}
 use Rattle.cs_engine.specs.Counting.{AreListed, in_listed}
 use Rattle.cs_engine.specs.Keeping.{FitsQuery, IsEntryOver, entry_with}
-use Rattle.cs_engine.specs.Loose.{AreCountsFor, AreLastWords, IsEntryByWords}
+use Rattle.cs_engine.specs.Loose.{AreCountsFor, AreLastWords, IsEntryByWords, IsTableFor}
 use Rattle.cs_engine.specs.IndexReading.{AreWithin, stock_of}
 use Rattle.cs_engine.specs.Steps.{EntryFits, last_is_positive, posts_after}
 use Rattle.cs_engine.specs.Stocked.{docs_in, is_between}
@@ -76,3 +81,19 @@ found_counts i q hits lo hi asks b stands is by found t f =
           (kept_within i (is_between lo hi) (stock_of b).posts (stock_within b i stands is));
       table = f.table;
     }
+
+-- the table of what is counted
+pub table_counted : {i : IndexView} {b : List ℕ} {q : Query} {cut : ℕ} {hits : Base} {t : WordCountsView} {table : Table} → AreCountsFor i b q hits t
+    → ((rows : List Post) → AreCountable rows → HasCounted rows t → table.total ≡ length (post_table rows))
+    → ((rows : List Post) → AreCountable rows → HasCounted rows t → table.first ≡ take cut (post_table rows)) → IsTableFor i b q cut hits table
+table_counted {cut = cut} a total first = record {
+  posts = a.posts;
+  found = a.found;
+  within = a.within;
+  first = first a.table.seen a.table.countable a.table.counted ∙ ap (take cut) a.table.same;
+  total = total a.table.seen a.table.countable a.table.counted ∙ ap length a.table.same;
+}
+
+-- its words are there
+pub table_there : {high many : ℕ} (cs : List Completion) → high ≤ many → All (λ c. c.word < high) cs → All (λ c. c.word < many) cs
+table_there {high} {many} cs few known = All-weaker (λ c. c.word < high) (λ c. c.word < many) (λ c lt. omega (arith, lt, few)) cs known

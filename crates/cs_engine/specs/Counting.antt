@@ -7,12 +7,18 @@
 --                            behind the other
 --   AreMarked hits old new   the documents of hits are listed beside those that were
 --   AreListed docs b listed  which of so many documents a base lists
-use Rattle.std.specs.Prelude.{◌≡◌, ℕ, ◌-◌, ◌<◌, ◌||◌, Bool, false, List, length, map, take, drop, flat_map, slice_index_or}
+--   CountsFacet i lo hi rows b marks     rows of a facet's words are counted in the documents that a base lists
+use Rattle.std.specs.Prelude.{◌≡◌, ℕ, ◌-◌, ◌*◌, ◌<◌, ◌≤◌, ◌||◌, Bool, false, List, length, map, take, drop, flat_map, slice_index_or}
 use Rattle.cs_base.specs.declared.content.doc.Base.{Base}
 use Rattle.cs_base.specs.declared.content.doc.Post.{Post}
 use Rattle.cs_base.specs.declared.content.doc.Scored.{Scored}
+use Rattle.cs_base.specs.declared.content.limits.TheConstants.{MAX_PARTS}
+use Rattle.cs_base.specs.declared.content.scores.TheConstants.{MAX_ROW_SCORE}
+use Rattle.cs_file.specs.Indexes.{IndexView, IsIndex}
 use Rattle.cs_model.specs.Answers.{is_listed}
 use Rattle.cs_tables.specs.WordCounts.{chosen}
+use Rattle.cs_engine.specs.IndexReading.{AreWithin}
+use Rattle.cs_engine.specs.Steps.{IsBaseOf}
 use Rattle.cs_engine.specs.Stocked.{docs_in}
 
 -- a document behind the last of the list isn't
@@ -32,3 +38,12 @@ AreMarked hits old new = (length new ≡ length old) × ((d : ℕ) → d < lengt
 pub record AreListed (docs : ℕ) (b : Base) (listed : List Bool) : Type 0 where
   pub long : length listed ≡ docs
   pub each : (d : ℕ) → d < docs → slice_index_or listed d false ≡ is_listed (docs_in docs b) d
+
+-- whatever store the rows were read from
+pub record CountsFacet (i : IndexView) (lo hi : ℕ) (rows : List Post) (b : Base) (marks : List Bool) : Type 0 where
+  pub index : IsIndex i
+  pub ordered : lo ≤ hi
+  pub words : hi ≤ length i.words
+  pub within : AreWithin i rows
+  pub base : IsBaseOf i.docs (MAX_ROW_SCORE * MAX_PARTS) b
+  pub listed : AreListed i.docs b marks

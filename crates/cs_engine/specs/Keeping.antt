@@ -3,18 +3,17 @@
 --
 -- Source: this engine's own, over `KeptList` of cs_model_kept.
 --
---   EngineView                an opened index, what is kept of answers, and the facets and wide ranges of words that are held
+--   EngineView                an opened index, what is kept of answers, and the ranges of words that are held
+--   engine_with i a h         an engine of this index, with these answers kept and these ranges held
 --   entry_with b posts        the entry of this base and these posts
 --   FitsQuery i q e           an entry is in the range of an index, as that of the query q is
 --   IsKeptEntry i e           the key of e is that of a query of the grammar, whose entry fits the index i
 --   KeepsFitting i held       each entry does
 --   IsPlanned i held q keys p      p is the plan for the keys of a query by what is kept, each entry of which fits the index i
 --   IsEntryOver b i q e       over the bytes b of an index an entry is that of the query q
---   IsAnsweredOver b i r a    over them an answer has the reply to a request, and its own entry where that isn't too large
---   IsRepliedOver b i r p a   the same of an answer by the plan p, whose own entry may have been kept before
 --   HoldsGood b i held        over them each kept entry is that of its key's own query
---   AreGood b e               over the bytes b of its index an engine keeps under each key the entry of the key's own query, and holds the
---                             facets and wide ranges of the index
+--   AreGood b e               over the bytes b of its index an engine keeps under each key the entry of the key's own query, and holds of
+--                             each range what the index has of it
 --   note_plan q a             the plan by which a query is answered from what is kept
 --   became p o                what becomes of a query's own entry behind the plan p; of None, which was kept before or is too large
 --   entries_behind a keys p o         the entries that a reply by the plan p leaves, where o is the query's own entry, if it wasn't kept before
@@ -23,8 +22,10 @@
 --   IsKeptBehind i q n old new      what is kept after a reply: what was used in front, and before it the query's own entry where it is kept
 --   IsLeftBehind q old new    what is kept after a refusal: the same entries, the used one maybe in front
 --   KeepsAnswers i q old r new       the one or the other
+--   wants_memory a            an answer is a refusal for want of memory
 --   IsAfter b q old r new     what is kept after a reply, over the bytes of the index
-use Rattle.std.specs.Prelude.{◌≡◌, ◌⊎◌, ℕ, false, List, ◌∷◌, length, take, Option, Some, None, is_some, IfSome, Result, Ok, Err, if◌then◌else◌}
+--   AnswersRight b r old a new    the reply is that of the corpus, what is kept after it is so, and the engine is good
+use Rattle.std.specs.Prelude.{◌≡◌, ◌⊎◌, ℕ, Bool, true, false, List, ◌∷◌, length, take, Option, Some, None, IfOk, Result, Ok, Err, if◌then◌else◌}
 use Rattle.std.specs.List.{All}
 use Rattle.cs_base.specs.declared.content.doc.Base.{Base}
 use Rattle.cs_base.specs.declared.content.doc.Post.{Post}
@@ -44,19 +45,23 @@ use Rattle.cs_model.specs.Requests.{Request, reply_of}
 use Rattle.cs_model_index.specs.Sections.{file_corpus}
 use Rattle.cs_model_kept.specs.Entries.{EntryOf, entry_at, entry_of}
 use Rattle.cs_model_kept.specs.KeptList.{KeptOf, GoodFor, after, kept_at, kept_by, kept_fresh, plan_by, put_in_front, to_front, used_key, is_same}
-use Rattle.cs_engine.specs.HeldFacets.{AreFacetsOver, FacetView}
+use Rattle.cs_engine.specs.HeldRanges.{AreHeldOver}
 use Rattle.cs_engine.specs.Steps.{EntryFits, last_is_positive}
-use Rattle.cs_engine.specs.WideRanges.{AreWideOver, RangeView}
 use Rattle.cs_file.specs.declared.fault.FetchFault.{FetchFault}
+use Rattle.cs_file.specs.declared.fault.FetchFault.TheVariants as fetches
+use Rattle.cs_engine.specs.declared.held.HeldRange.{HeldRange}
 use Rattle.cs_engine.specs.declared.note.Note.{Note}
 
--- an index that was opened, the kept entries with how many there may be, facets with their rows, and wide ranges of words with what
--- is found of them; an engine begins with none
+-- an index that was opened, the kept entries with how many there may be, and ranges of words with what is held of them, the last used
+-- first; an engine begins with none
 pub record EngineView : Type 0 where
   pub index : IndexView
   pub answers : AnswerList
-  pub facets : List FacetView
-  pub wide : List RangeView
+  pub held : List HeldRange
+
+-- as it is seen
+abbrev pub engine_with : IndexView → AnswerList → List HeldRange → EngineView
+engine_with i a h = record { index = i; answers = a; held = h }
 
 -- ---- over each store
 -- as it stands; of no posts it has no rows
@@ -123,33 +128,27 @@ abbrev pub KeepsAnswers : IndexView → Query → AnswerList → Result (Reply �
 KeepsAnswers i q old (Ok r) new = (new.capacity ≡ old.capacity) × (r.1.plan ≡ note_plan q old) × WasHad r.1 × IsKeptBehind i q r.1.kept old new
 KeepsAnswers i q old (Err e) new = (new.capacity ≡ old.capacity) × IsLeftBehind q old new
 
+-- no other refusal is
+abbrev pub wants_memory : {T : Type 0} → Result T FetchFault → Bool
+wants_memory (Ok x) = false
+wants_memory (Err fetches.Memory) = true
+wants_memory (Err fetches.Read) = false
+wants_memory (Err (fetches.Changed rule at)) = false
+
 -- ---- over the bytes of the index
 -- with its rows told by the words of the index
 abbrev pub IsEntryOver : List ℕ → IndexView → Query → EntryOf Post → Type 0
 IsEntryOver b i q e = entry_at i.words e ≡ entry_of (file_corpus b) q
 
--- an own entry that doesn't come along is too large
-pub record IsAnsweredOver (b : List ℕ) (i : IndexView) (r : Request) (a : Reply × Option (EntryOf Post)) : Type 0 where
-  pub reply : a.0 ≡ reply_of (file_corpus b) r
-  pub own : IfSome a.1 (IsEntryOver b i r.query)
-  pub large : is_some a.1 ≡ false → kept_fresh (entry_of (file_corpus b) r.query) ≡ kept.TooLarge
-
--- by Same it was kept before, and doesn't come along
-pub record IsRepliedOver (b : List ℕ) (i : IndexView) (r : Request) (p : Plan) (a : Reply × Option (EntryOf Post)) : Type 0 where
-  pub reply : a.0 ≡ reply_of (file_corpus b) r
-  pub own : IfSome a.1 (IsEntryOver b i r.query)
-  pub large : is_some a.1 ≡ false → is_same p ≡ false → kept_fresh (entry_of (file_corpus b) r.query) ≡ kept.TooLarge
-
 -- no entries are good
 abbrev pub HoldsGood : List ℕ → IndexView → KeptOf (EntryOf Post) → Type 0
 HoldsGood b i held = GoodFor (file_corpus b) (kept_at i.words held)
 
--- under each key stands the entry of the key's own query over the corpus of the bytes, and the facets and the wide ranges that are
--- held are those of the bytes; an engine that keeps nothing is good
+-- under each key stands the entry of the key's own query over the corpus of the bytes, and what is held of ranges of words is that of
+-- the bytes; an engine that keeps and holds nothing is good
 pub record AreGood (b : List ℕ) (e : EngineView) : Type 0 where
   pub kept : HoldsGood b e.index e.answers.entries
-  pub facets : AreFacetsOver b e.facets
-  pub wide : AreWideOver b e.wide
+  pub held : AreHeldOver b e.held
 
 -- the entries of the corpus are those that a query leaves, its own kept unless it is too large; nothing is said of a refusal
 abbrev pub IsAfter : List ℕ → Query → EngineView → Result (Reply × Note) FetchFault → EngineView → Type 0
@@ -157,3 +156,9 @@ IsAfter b q old (Ok r) new =
     (r.1.kept ≡ kept_by r.1.plan (entry_of (file_corpus b) q))
     × (kept_at new.index.words new.answers.entries ≡ after (kept_at old.index.words old.answers.entries) old.answers.capacity q r.1.kept (file_corpus b))
 IsAfter b q old (Err e) new = Unit {0}
+
+-- the same of a refusal, which has no reply
+pub record AnswersRight (b : List ℕ) (r : Request) (old : EngineView) (a : Result (Reply × Note) FetchFault) (new : EngineView) : Type 0 where
+  pub reply : IfOk a (λ x. x.0 ≡ reply_of (file_corpus b) r)
+  pub good : AreGood b new
+  pub after : IsAfter b r.query old a new

@@ -10,6 +10,5 @@ pub mod Steps
 pub mod Stocked
 pub mod GatheredRows
 pub mod Spans
-pub mod HeldFacets
-pub mod RequestsOver
-pub mod WideRanges
+pub mod HeldRanges
+pub mod Finding

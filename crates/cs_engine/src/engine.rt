@@ -1,55 +1,52 @@
 //! The engine over an opened index.
-ghost use Rattle.std.specs.Prelude.{◌≡◌, ◌≤◌, [], None, false, true, is_some, length, IfErr, IfOk};
+ghost use Rattle.std.specs.Prelude.{◌≡◌, ◌≤◌, [], Err, false, length, IfErr, IfOk};
 ghost use Rattle.std.specs.Option.{ForSome};
 ghost use Rattle.cs_base.specs.outside.Causes.{ReadsWithin};
 ghost use Rattle.cs_cache.specs.AnswerList.{answer_list};
+ghost use Rattle.cs_file.specs.CallAnswers.{is_changed, is_read};
 ghost use Rattle.cs_file.specs.Indexes.{HasAllBlocks, StandsFor, CausedReads};
+ghost use Rattle.cs_file.specs.declared.fault.FetchFault.TheVariants as fetches;
 ghost use Rattle.cs_model.specs.{Parameters.{HoldsLimits}, Requests.{reply_of}};
 ghost use Rattle.cs_model_index.specs.Sections.{file_corpus};
-ghost use Rattle.cs_model_kept.specs.{Due.{due}, KeptList.{plan_by, is_same}, declared.limits.TheConstants.{MAX_ENTRIES}};
+ghost use Rattle.cs_model_kept.specs.{Due.{due}, declared.limits.TheConstants.{MAX_ENTRIES}};
 ghost use Rattle.cs_query.specs.RequestView.{asked};
-ghost use Rattle.cs_engine.specs.Asking.{IsChangeIn, division, titles_asked};
-ghost use Rattle.cs_file.specs.CallAnswers.{is_changed, is_read};
-ghost use Rattle.cs_engine.specs.Keeping.{AreGood, IsAfter, KeepsAnswers, became, entries_behind, note_plan};
+ghost use Rattle.cs_engine.specs.{Asking.{IsChangeIn, division, titles_asked}, HeldRanges.{range_bytes}, declared.held.TheConstants.{MAX_HELD_BYTES}};
+ghost use Rattle.cs_engine.specs.Keeping.{AreGood, IsAfter, KeepsAnswers, note_plan};
 
-use crate::answering::RequestOver;
-use crate::facets::{FacetRows, hold_facets};
+use crate::ask::{answered, wants_memory};
+use crate::held::Holder;
 use crate::note::Note;
-use crate::wide::{WideRange, replied};
-use cs_base::{Kept, Keys, Plan, Store};
-use cs_cache::{Answers, Entry};
+use crate::show::RequestOver;
+use cs_base::Store;
+use cs_cache::Answers;
 use cs_file::{FetchFault, Index};
-use cs_query::{Reply, Request, keys};
+use cs_query::{Reply, Request};
 use std::alloc::Global;
 use std::marker::Model;
 
 /// What answers requests over the store of an index, and keeps of its answers what serves the next ones.
 ///
-/// Each entry that it keeps, and each facet and wide range of words that it holds, is in the range of the index, whatever store it was
-/// read from.
+/// Each entry that it keeps, and what it holds of ranges of words, is in the range of the index, whatever store it was read from.
 #[derive(Drop)]
 pub struct Engine {
     /// The index that was opened.
     pub index: Index,
     /// What is kept of answers.
     pub answers: Answers,
-    // The facets that were asked, with their rows.
-    facets: Vec<FacetRows>,
-    // The wide ranges of words that were asked, with what is found of them.
-    wide: Vec<WideRange>,
+    // Ranges of words that were asked, with what is held of them.
+    held: Holder,
 }
 
 impl Model for Engine {
     ghost use Rattle.std.specs.List.{All};
-    ghost use Rattle.cs_engine.specs.HeldFacets.{IsFacet};
-    ghost use Rattle.cs_engine.specs.Keeping.{EngineView, KeepsFitting};
-    ghost use Rattle.cs_engine.specs.WideRanges.{IsWide};
+    ghost use Rattle.cs_engine.specs.HeldRanges.{FitsRange};
+    ghost use Rattle.cs_engine.specs.Keeping.{EngineView, KeepsFitting, engine_with};
 
     ghost Value = { EngineView };
 
-    ghost view = { λ e. record { index = e.index; answers = e.answers; facets = e.facets.items; wide = e.wide.items } };
+    ghost view = { λ e. engine_with e.index e.answers e.held };
 
-    ghost invariant = { λ e. KeepsFitting e.index e.answers.entries × All (IsFacet e.index) e.facets.items × All (IsWide e.index) e.wide.items };
+    ghost invariant = { λ e. KeepsFitting e.index e.answers.entries × All (FitsRange e.index) e.held };
 }
 
 impl Engine {
@@ -58,21 +55,22 @@ impl Engine {
         requires some { 1 ≤ capacity }
         requires limit { capacity ≤ MAX_ENTRIES }
 
-        ensures ok { IfOk result (λ e. e ≡ record { index = index; answers = answer_list [] capacity; facets = []; wide = [] }) }
+        ensures ok { IfOk result (λ e. e ≡ record { index = index; answers = answer_list [] capacity; held = [] }) }
+        ensures bounded { IfOk result (λ e. range_bytes e.held ≤ MAX_HELD_BYTES) }
     {
         let answers = Answers::new(alloc, capacity)?;
         Ok(Engine {
             index,
             answers,
-            facets: Vec::new(alloc),
-            wide: Vec::new(alloc),
+            held: Holder::new(alloc),
         })
     }
 
     /// The reply to a request, over the store from which the index was opened, and how it was answered. It goes on from what is kept and
-    /// from the facets and wide ranges of words that are held; blocks are read where that doesn't serve.
+    /// from what is held of ranges of words; blocks are read where that doesn't serve.
     ///
-    /// A failed read and a change of the file are told as such, and want of memory too; the same answers are kept then.
+    /// A failed read and a change of the file are told as such, and want of memory too; the same answers are kept then. Where memory is
+    /// wanted, all that is held of ranges of words is given back.
     pub fn ask<S: Store>(
         &mut self,
         alloc: Global,
@@ -102,45 +100,19 @@ impl Engine {
             (S.reads store.old) (S.reads store.new) }
         ensures caused { CausedReads (is_read result) (S.faults store.old) (S.faults store.new) }
         ensures changed { IfErr result (IsChangeIn self.old.index (S.bytes store.old)) }
+
+        // How much is held, and that it is given back where memory is wanted.
+        ensures bounded { range_bytes self.new.held ≤ MAX_HELD_BYTES }
+        ensures given { result ≡ Err fetches.Memory → self.new.held ≡ [] }
     {
-        let keys = keys(alloc, &request.query)?;
-        let names = request.facets.as_slice();
-        hold_facets(alloc, &self.index, store, names, &mut self.facets)?;
-        let plan = self.answers.look(&keys);
         let over = RequestOver {
             alloc,
             index: &self.index,
-            held: &self.facets,
             request,
         };
-        let (reply, own) = replied(over, &self.answers, store, &keys, plan, &mut self.wide)?;
-        let kept = put(&mut self.answers, keys, plan, own);
-        Ok((reply, Note { plan, kept }))
-    }
-}
-
-// What becomes of the query's own entry, behind a reply by a plan. The entry that the plan used comes to the front before.
-fn put(answers: &mut Answers, keys: Keys, plan: Plan, entry: Option<Entry>) -> Kept
-    requires plan { plan ≡ plan_by answers.old.entries keys }
-    requires own { is_same plan ≡ true → is_some entry ≡ false }
-
-    ensures became { result ≡ became plan entry }
-    ensures entries { answers.new.entries ≡ entries_behind answers.old keys plan entry }
-    ensures capacity { answers.new.capacity ≡ answers.old.capacity }
-{
-    answers.resume(&keys, plan);
-    match entry {
-        Some(entry) => answers.keep(keys.same, entry),
-        None => not_kept(plan),
-    }
-}
-
-// What is told of an own entry that isn't there: it was kept before where the plan is Same, and else it is too large.
-fn not_kept(plan: Plan) -> Kept
-    ensures { result ≡ became plan None }
-{
-    match plan {
-        Plan::Same => Kept::Had,
-        Plan::Narrow { .. } | Plan::Extend | Plan::Fresh => Kept::TooLarge,
+        let answer = answered(over, store, &mut self.answers, &mut self.held);
+        let wanted = wants_memory(&answer);
+        self.held.give_back(alloc, wanted);
+        answer
     }
 }

@@ -4,7 +4,7 @@
 //! what is kept in `Entries` and `KeptList` of `cs_model_kept`. It reads through a store alone, and writes nothing.
 #![tactic(auto)]
 
-mod answering;
+mod ask;
 mod best;
 mod between;
 mod blockwise;
@@ -13,20 +13,23 @@ mod engine;
 mod entries;
 mod evaluation;
 mod facets;
+mod find;
+mod find_kept;
+mod find_parts;
+mod find_range;
+mod finding;
 mod gathering;
+mod held;
 mod hits;
-mod loose;
 mod note;
 mod packing;
 mod parts;
 mod plain;
-mod plans;
 mod reading;
 mod replies;
-mod replying;
 mod scored;
+mod show;
 mod steps;
-mod wide;
 mod words;
 
 pub use cs_file::FetchFault as AskFault;

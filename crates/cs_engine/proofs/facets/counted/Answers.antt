@@ -6,7 +6,6 @@ use Rattle.cs_base.specs.declared.content.doc.Scored.{Scored}
 use Rattle.cs_base.specs.declared.content.limits.TheConstants.{MAX_PARTS}
 use Rattle.cs_base.specs.declared.content.scores.TheConstants.{MAX_ROW_SCORE}
 use Rattle.cs_meet.specs.Filters.{keep_docs}
-use Rattle.cs_engine.specs.HeldFacets.{FacetView}
 use Rattle.cs_engine.specs.Stocked.{docs_in}
 use Rattle.cs_engine.specs.Steps.{IsBaseOf}
 use Rattle.cs_engine.proofs.FacetLemmas.{chosen_facet, chosen_kept, facet_counts, known_docs, known_kept}
@@ -20,33 +19,36 @@ keep_docs-requires-clause-docs_sorted c =
 
 pub add-requires-clause-known : goal.add-requires-clause-known
 add-requires-clause-known c =
-    subst (λ ds. All (λ d. d < length c.args.listed.now) ds) (sym (c.docs.ensures ∙ ap (map (λ (p : Post). p.doc)) (c.in_ok-rows.ensures.ok
-    ∙ ap (λ (x : FacetView). keep_docs x.posts c.deref.result.now) c.facet.view_is)))
-    (known_kept c.args.index.now c.args.facet.now.posts c.deref.result.now c.requires.facet.within c.requires.listed.long)
+    subst (λ ds. All (λ d. d < length c.args.listed.now) ds) (sym (c.docs.ensures ∙ ap (map (λ (p : Post). p.doc)) (c.in_ok-found.ensures.ok)))
+    (known_kept c.args.index.now c.args.rows.now.posts c.deref.result.now c.requires.within c.requires.listed.long)
 
 pub returns-then-len-clause-told : goal.returns-then-len-clause-told
 returns-then-len-clause-told c all are =
-    let f = c.args.facet.now in
+    let posts = c.args.rows.now.posts in
+    let lo = c.args.words.0 in
+    let hi = c.args.words.1 in
     let i = c.args.index.now in
-    let rows = c.in_ok-rows.rows.posts in
+    let rows = c.in_ok-found.found.posts in
     let docs_are = c.deref.ensures.value ∙ c.in_ok-docs.ensures ∙ ap (map (λ (h : Scored). h.doc)) c.as_slice.ensures
     ∙ ap (docs_in i.docs) (sym c.in-Listed.is) in
-    facet_counts i c.requires.index (c.in_ok-counts.ensures.low ∙ ap (λ (x : FacetView). x.low) c.facet.view_is)
-    (c.in_ok-counts.ensures.high ∙ ap (λ (x : FacetView). x.high) c.facet.view_is) c.args.listed.now f.posts rows c.requires.facet.within
-    (chosen_kept f.low f.high c.args.listed.now f.posts all are i c.args.base.now c.deref.result.now rows c.requires.listed c.requires.facet.within docs_are
-    (c.in_ok-rows.ensures.ok ∙ ap (λ (x : FacetView). keep_docs x.posts c.deref.result.now) c.facet.view_is))
+    facet_counts i c.requires.index c.in_ok-counts.ensures.low
+    c.in_ok-counts.ensures.high c.args.listed.now posts rows c.requires.within
+    (chosen_kept lo hi c.args.listed.now posts all are i c.args.base.now c.deref.result.now rows c.requires.listed c.requires.within docs_are
+    c.in_ok-found.ensures.ok)
     (λ few. c.add.ensures.counted rows c.docs.ensures c.words.ensures [] few c.in_ok-counts.ensures.none)
 
 pub add-requires-2-clause-known : goal.add-requires-2-clause-known
 add-requires-2-clause-known c =
-    subst (λ ds. All (λ d. d < length c.args.listed.now) ds) (sym (c.docs-2.ensures ∙ ap (λ (x : FacetView). map (λ (p : Post). p.doc) x.posts) c.facet.view_is))
-    (known_docs c.args.index.now c.args.facet.now.posts c.requires.facet.within c.requires.listed.long)
+    subst (λ ds. All (λ d. d < length c.args.listed.now) ds) (sym c.docs-2.ensures)
+    (known_docs c.args.index.now c.args.rows.now.posts c.requires.within c.requires.listed.long)
 
 pub returns-clause-told : goal.returns-clause-told
 returns-clause-told c all are =
-    let f = c.args.facet.now in
-    facet_counts c.args.index.now c.requires.index (c.in_ok-counts.ensures.low ∙ ap (λ (x : FacetView). x.low) c.facet.view_is)
-    (c.in_ok-counts.ensures.high ∙ ap (λ (x : FacetView). x.high) c.facet.view_is) c.args.listed.now f.posts f.posts
-    c.requires.facet.within (chosen_facet f.low f.high c.args.listed.now f.posts all are)
-    (λ few. c.add-2.ensures.counted f.posts (c.docs-2.ensures ∙ ap (λ (x : FacetView). map (λ (p : Post). p.doc) x.posts) c.facet.view_is)
-    (c.words-2.ensures ∙ ap (λ (x : FacetView). map (λ (p : Post). p.word) x.posts) c.facet.view_is) [] few c.in_ok-counts.ensures.none)
+    let posts = c.args.rows.now.posts in
+    let lo = c.args.words.0 in
+    let hi = c.args.words.1 in
+    facet_counts c.args.index.now c.requires.index c.in_ok-counts.ensures.low
+    c.in_ok-counts.ensures.high c.args.listed.now posts posts
+    c.requires.within (chosen_facet lo hi c.args.listed.now posts all are)
+    (λ few. c.add-2.ensures.counted posts c.docs-2.ensures
+    c.words-2.ensures [] few c.in_ok-counts.ensures.none)

@@ -1,0 +1,100 @@
+//! Finding a query's hits and completions by a plan of what is kept, and its own entry where that wasn't kept before.
+ghost use Rattle.std.specs.Prelude.{◌≡◌, false, true, is_some, IfOk};
+ghost use Rattle.std.specs.List.{All};
+ghost use Rattle.cs_base.specs.outside.Causes.{ReadsWithin};
+ghost use Rattle.cs_model_kept.specs.{Due.{met_by, met_of_query}, KeptList.{is_same}};
+ghost use Rattle.cs_engine.specs.{Asking.{division}, Finding.{CanFind, FitsFound, IsFoundAnew, IsFoundOver}};
+ghost use Rattle.cs_engine.specs.{HeldRanges.{AreHeldOver, FitsRange, OnlyGoes}, IndexReading.{OnlyReads, WhereStood}, Keeping.{HoldsGood, IsPlanned}};
+
+use crate::entries::nothing_kept;
+use crate::find_kept::{hits_before, narrowed};
+use crate::find_parts::find_last;
+use crate::find_range::{find_range, wide_words};
+use crate::finding::{QueryFound, QueryOver, found_in, found_with};
+use crate::held::Holder;
+use crate::steps::hits_of_parts;
+use cs_base::{Keys, Plan, Store};
+use cs_cache::Answers;
+use cs_file::FetchFault;
+
+/// What is found of a query by a plan of what is kept. Where nothing that is kept serves, and the query asks for a wide range of words
+/// alone, it is found by the range, which is taken out of what is held.
+pub(crate) fn find_by<S: Store>(
+    over: QueryOver<'_>,
+    answers: &Answers,
+    store: &mut S,
+    keys: &Keys,
+    plan: Plan,
+    held: &mut Holder,
+) -> Result<QueryFound, FetchFault>
+    requires planned { IsPlanned over.index.now answers.now.entries over.query.now keys.now plan }
+    requires held { All (FitsRange over.index.now) held.old }
+    requires over { CanFind (S.bytes store.old) over }
+
+    ensures told { WhereStood (S.bytes store.old) over.entry.index.now
+        (λ b. AreHeldOver b held.old → HoldsGood b over.entry.index.now answers.now.entries → IfOk result (IsFoundOver b over.entry plan)) }
+    ensures fits { IfOk result (FitsFound over.entry) }
+    ensures had { IfOk result (λ f. is_same plan ≡ true → is_some f.own ≡ false) }
+    ensures held { OnlyGoes held.old held.new }
+    ensures store { OnlyReads S.bytes S.lent S.faults over.entry.index.now store.old store.new result }
+    ensures reads { ReadsWithin (met_by (division over.entry.index.now) over.entry.query.now plan) (S.reads store.old) (S.reads store.new) }
+{
+    match plan {
+        Plan::Same => {
+            let view = answers.view(keys, plan);
+            let (hits, table) = found_in(over, view.base, view.rows)?;
+            Ok(QueryFound {
+                hits,
+                table,
+                own: None,
+                range: None,
+            })
+        }
+        Plan::Narrow { .. } => {
+            let view = answers.view(keys, plan);
+            let entry = narrowed(over.alloc, over.index, over.query, view.base, view.rows)?;
+            let found = found_with(over, entry)?;
+            Ok(found)
+        }
+        Plan::Extend => {
+            let view = answers.view(keys, plan);
+            let hits = hits_before(over.alloc, over.query, view.base, view.rows)?;
+            let found = find_last(over, store, hits)?;
+            Ok(found)
+        }
+        Plan::Fresh => {
+            let found = find_fresh(over, store, held)?;
+            Ok(found)
+        }
+    }
+}
+
+// What is found by all parts.
+fn find_fresh<S: Store>(
+    over: QueryOver<'_>,
+    store: &mut S,
+    held: &mut Holder,
+) -> Result<QueryFound, FetchFault>
+    requires held { All (FitsRange over.index.now) held.old }
+    requires over { CanFind (S.bytes store.old) over }
+
+    ensures told { WhereStood (S.bytes store.old) over.entry.index.now (λ b. AreHeldOver b held.old → IfOk result (IsFoundAnew b over.entry)) }
+    ensures fits { IfOk result (FitsFound over.entry) }
+    ensures held { OnlyGoes held.old held.new }
+    ensures store { OnlyReads S.bytes S.lent S.faults over.entry.index.now store.old store.new result }
+    ensures reads { ReadsWithin (met_of_query (division over.entry.index.now) over.entry.query.now) (S.reads store.old) (S.reads store.new) }
+{
+    let parts = over.query.parts.as_slice();
+    if parts.is_empty() {
+        let entry = nothing_kept(over.alloc);
+        let found = found_with(over, entry)?;
+        return Ok(found);
+    }
+    if let Some(words) = wide_words(over.index, parts) {
+        let found = find_range(over, store, words, held)?;
+        return Ok(found);
+    }
+    let hits = hits_of_parts(over.alloc, over.index, store, &parts[..parts.len() - 1])?;
+    let found = find_last(over, store, hits)?;
+    Ok(found)
+}

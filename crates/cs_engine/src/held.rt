@@ -1,0 +1,177 @@
+//! Ranges of words that are held from one request to the next, within one bound on their bytes, so that their blocks are read once.
+//!
+//! A range that is used is taken out, and held anew behind its use: so nothing that is in use is let go.
+ghost use Rattle.std.specs.Prelude.{◌≡◌, ◌+◌, ◌<◌, ◌≤◌, ◌^◌, [], None, false, true, length, take, IfSome, if◌then◌else◌};
+ghost use Rattle.std.specs.List.{list_any};
+ghost use Rattle.cs_engine.specs.HeldRanges.{HoldsMore, IsFirstOf, IsWithout, PassesAt, bytes_of_range, is_kind, is_range, range_bytes, what_bytes};
+
+use crate::hits::size_of;
+use cs_base::Base;
+use cs_cols::Cols;
+use cs_tables::WordCounts;
+use std::alloc::Global;
+use std::marker::Model;
+
+/// So many bytes of rows, hits and counts are held at most; all rows that a collection may have are fewer.
+pub(crate) const MAX_HELD_BYTES: u128 = 240 << 20;
+
+/// The bytes of a range by itself, so that there are never more of them than a request can look through.
+pub(crate) const RANGE_BYTES: u128 = 1 << 14;
+
+/// The bytes of a row: three numbers and a score.
+pub(crate) const ROW_BYTES: u128 = 13;
+
+/// The bytes of a hit: its document and its score.
+pub(crate) const HIT_BYTES: u128 = 8;
+
+/// The bytes of a counted word: how many documents have it, and the last of them.
+pub(crate) const COUNT_BYTES: u128 = 8;
+
+/// What is held of a range of words.
+#[derive(Drop)]
+pub(crate) enum Holding {
+    /// The rows of these words, in order.
+    Rows(Cols),
+    /// The documents that have such a row with their scores, and these words, counted.
+    Counted { hits: Base, counts: WordCounts },
+}
+
+/// The words from one number up to another, which is left out, with what is held of them.
+#[derive(Drop)]
+pub(crate) struct HeldRange {
+    pub(crate) low: u32,
+    pub(crate) high: u32,
+    pub(crate) what: Holding,
+}
+
+/// Ranges that are held, the last used first.
+#[derive(Drop)]
+pub(crate) struct Holder {
+    ranges: Vec<HeldRange>,
+}
+
+impl Model for Holder {
+    ghost use Rattle.std.specs.Prelude.{List, ◌≤◌};
+    ghost use Rattle.std.specs.Coded.{coded_list};
+    ghost use Rattle.cs_engine.specs.HeldRanges.{range_bytes};
+    ghost use Rattle.cs_engine.specs.declared.held.HeldRange.{HeldRange};
+    ghost use Rattle.cs_engine.specs.declared.held.TheConstants.{MAX_HELD_BYTES};
+
+    ghost Value = { List HeldRange };
+
+    ghost view = { λ h. h.ranges.items };
+
+    ghost invariant = { λ h. range_bytes h.ranges.items ≤ MAX_HELD_BYTES };
+}
+
+impl Holder {
+    /// No range.
+    pub(crate) fn new(alloc: Global) -> Holder
+        ensures { result ≡ [] }
+    {
+        Holder {
+            ranges: Vec::new(alloc),
+        }
+    }
+
+    /// Takes out what is held of these words: their rows, or else what is counted of them.
+    pub(crate) fn take(&mut self, words: (u32, u32), rows: bool) -> Option<Holding>
+        ensures none { result ≡ None → (self.new ≡ self.old) × (list_any (is_range words.0 words.1 rows) self.old ≡ false) }
+        ensures some { IfSome result (λ w. IsWithout (record { low = words.0; high = words.1; what = w }) self.old self.new × (is_kind rows w ≡ true)) }
+    {
+        let place = place_of(&self.ranges, words, rows)?;
+        let range = self.ranges.remove(place);
+        Some(range.what)
+    }
+
+    /// Holds a range. Where more than the bound would be held, those go that weren't used for longest, and one that is larger by itself
+    /// isn't held; nor is it where memory for its place is wanted.
+    pub(crate) fn hold(&mut self, range: HeldRange)
+        ensures large { MAX_HELD_BYTES < bytes_of_range range → self.new ≡ self.old }
+        ensures held { HoldsMore range self.old self.new }
+    {
+        if bytes_of_range(&range) > MAX_HELD_BYTES {
+            return;
+        }
+        if self.ranges.insert(0, range).is_err() {
+            return;
+        }
+        let many = many_within(&self.ranges);
+        self.ranges.truncate(many);
+    }
+
+    /// Lets everything go where memory is wanted.
+    pub(crate) fn give_back(&mut self, alloc: Global, wanted: bool)
+        ensures left { self.new ≡ (if wanted then [] else self.old) }
+        ensures bounded { range_bytes self.new ≤ MAX_HELD_BYTES }
+    {
+        if wanted {
+            self.ranges = Vec::new(alloc);
+        }
+    }
+}
+
+// How many of the first ranges have room together.
+fn many_within(ranges: &[HeldRange]) -> usize
+    ensures { IsFirstOf ranges.now (take result ranges.now) }
+{
+    let mut bytes = 0;
+    for (i, range) in ranges.iter().enumerate() {
+        bytes += bytes_of_range(range);
+        if bytes > MAX_HELD_BYTES {
+            return i;
+        }
+    }
+    ranges.len()
+}
+
+// The bytes of a range.
+fn bytes_of_range(range: &HeldRange) -> u128
+    ensures bytes { result ≡ bytes_of_range range.now }
+    ensures few { result < 2 ^ 70 }
+{
+    RANGE_BYTES + bytes_held(&range.what, range.high.saturating_sub(range.low))
+}
+
+// The bytes of what is held of so many words.
+fn bytes_held(what: &Holding, words: u32) -> u128
+    ensures bytes { result ≡ what_bytes what.now words }
+    ensures few { result < 2 ^ 69 }
+{
+    match what {
+        Holding::Rows(rows) => ROW_BYTES * rows.len() as u128,
+        Holding::Counted { hits, .. } => {
+            HIT_BYTES * size_of(hits) as u128 + COUNT_BYTES * u128::from(words)
+        }
+    }
+}
+
+// The place of what is held of these words.
+fn place_of(ranges: &[HeldRange], words: (u32, u32), rows: bool) -> Option<usize>
+    ensures none { result ≡ None → list_any (is_range words.0 words.1 rows) ranges.now ≡ false }
+    ensures some { IfSome result (λ k. PassesAt (is_range words.0 words.1 rows) ranges.now k) }
+{
+    for (i, range) in ranges.iter().enumerate() {
+        if is_range(range, words, rows) {
+            return Some(i);
+        }
+    }
+    None
+}
+
+// Whether a range is of these words, and has rows or not.
+fn is_range(range: &HeldRange, words: (u32, u32), rows: bool) -> bool
+    ensures { result ≡ is_range words.0 words.1 rows range.now }
+{
+    range.low == words.0 && range.high == words.1 && is_kind(&range.what, rows)
+}
+
+// Whether it has rows, or hasn't.
+fn is_kind(what: &Holding, rows: bool) -> bool
+    ensures { result ≡ is_kind rows what.now }
+{
+    match what {
+        Holding::Rows(_) => rows,
+        Holding::Counted { .. } => !rows,
+    }
+}
