@@ -100,6 +100,9 @@ fn shown_facets<S: Store>(
         request,
     } = over;
     let mut shown = Seq::new(alloc);
+    if request.facets.as_slice().is_empty() {
+        return Ok(shown);
+    }
     let listed = listed_docs(alloc, index.docs, base)?;
     for name in request.facets.as_slice() {
         let facet = shown_facet(over, store, held, base, &listed, name)?;

@@ -58,7 +58,7 @@ fn a_word_that_no_collection_gives_is_opened(rt: HostRuntime) -> Result<(), Fail
 }
 
 // How many words the file has where it is opened with these changes.
-fn opened(alloc: Global, changes: &[(usize, u8)]) -> Result<Result<usize, OpenFault>, Memory> {
+fn opened(alloc: Global, changes: &[(usize, u8)]) -> Result<Result<u32, OpenFault>, Memory> {
     let mut bytes = ONE_DOCUMENT.file1.to_vec(alloc)?;
     for (place, byte) in changes {
         if let Some(there) = bytes.get_mut(*place) {
