@@ -15,7 +15,7 @@ of_collection b None h = tt
 of_collection b (Some r) h = ap (λ x. first_reason (x ∷ rows_refusal (rows_of (weights b) (documents b)) ∷ [])) h
 
 pub want_of-requires : goal.want_of-requires
-want_of-requires c = unrefused c.args.bytes.now (Documents c.in-Err.fault) c.requires (of_collection c.args.bytes.now _ c.in-Err.ensures.err)
+want_of-requires c = unrefused c.args.bytes.now (Documents c.in-Err.fault) c.requires.accepted (of_collection c.args.bytes.now _ c.in-Err.ensures.err)
 
 pub returns-in-Ok-clause-few : goal.returns-in-Ok-clause-few
 returns-in-Ok-clause-few c = few_words c.args.bytes.now (map doc_of_lent c.in-Ok.collected.docs.items) c.in-Ok.ensures.accepted c.in-Ok.ensures.ok
