@@ -3,10 +3,12 @@
 
 Run at the top of the repository. A reader who meets a name should find one thing under it, in whichever crate. Types and functions
 are those that stand at the left edge of a file as `pub` or `pub(crate)`; a method is known by its type. A name that is a definition and
-a type or function too is one thing where the source file takes that definition in by `ghost use`, for its contract speaks of it then,
-or where a file of definitions takes in both, for it views the one as the other. Crates of tests and times aren't read. The names in
-EXCUSED may stand twice, each for the reason beside it. The status is 1 where anything was printed.
+a function too is one thing where the function's own contract says so: the source file takes that definition in by `ghost use`, and an
+`ensures` of the function names it. One that is a definition and a type is one thing where the source file takes that definition in, for
+its contracts speak of it then, or where a file of definitions takes in both, for it views the one as the other. Crates of tests and
+times aren't read. The names in EXCUSED may stand twice, each for the reason beside it. The status is 1 where anything was printed.
 """
+import itertools
 import pathlib
 import re
 import sys
@@ -22,7 +24,9 @@ OF_TESTS = ("cs_tests", "cs_unit_tests", "timed")
 DEFINITION = re.compile(r"^\s*(?:abbrev pub|unfoldable pub|pub record|pub data|pub)\s+([^\s:{(]+)")
 OPEN_RECORD = re.compile(r"^(?:abbrev |unfoldable )?(?:pub )?(?:record|data)\b")
 ITEM = re.compile(r"^pub(?:\(crate\))? (?:(?P<type>struct|enum|trait|type|union)|(?:const )?fn) (?P<name>\w+)")
-TAKES_IN = re.compile(r"use Rattle\.(?P<module>[\w.]+?)\.\{(?P<names>[^}]*)\}")
+TAKES_IN = re.compile(r"\buse Rattle\.")
+STEP = re.compile(r"\s*(?P<name>[^\s{},;]*)(?: as [^\s{},;]+)?\s*(?P<mark>[{},;]?)")    # of the path behind it, `A.{b, C.{d as e}}`
+ENSURES = re.compile(r"^ +ensures\b.*?(?=^ +(?:ensures|requires|//)|\Z)", re.M | re.S)
 DECLARED = ".specs.declared."    # the modules in which a crate's types are known to definitions
 
 
@@ -48,12 +52,35 @@ def items(path):
             yield "type" if found["type"] else "function", found["name"], number
 
 
+def ensured(path, number):
+    """What the `ensures` of the function at this line say."""
+    head = itertools.takewhile(lambda line: not line.startswith(("{", "}")), path.read_text(encoding="utf-8").splitlines()[number:])
+    return " ".join(ENSURES.findall("\n".join(head)))
+
+
+def paths(text, at):
+    """The paths that a `use` names whose first path begins here."""
+    outer, at_end = [""], False
+    while not at_end:
+        step = STEP.match(text, at)
+        at = step.end()
+        if step["mark"] == "{":
+            outer.append(outer[-1] + step["name"])
+            continue
+        if step["name"]:
+            yield outer[-1] + step["name"]
+        if step["mark"] == "}":
+            outer.pop()
+        at_end = len(outer) == 1 or at == len(text)
+
+
 def taken_in(path):
     """The definitions that a file takes in, as the file in which each stands and its name, and the types, as crate and name."""
-    for found in TAKES_IN.finditer(path.read_text(encoding="utf-8")):
-        crate, declared, _ = found["module"].partition(DECLARED)
-        file = crate if declared else "crates/" + found["module"].replace(".", "/") + ".antt"
-        yield from ((file, name.split(" as ")[0].strip()) for name in found["names"].split(","))
+    text = path.read_text(encoding="utf-8")
+    for found in TAKES_IN.finditer(text):
+        for module, _, name in (whole.rpartition(".") for whole in paths(text, found.end())):
+            crate, declared, _ = module.partition(DECLARED)
+            yield crate if declared else "crates/" + module.replace(".", "/") + ".antt", name
 
 
 def sources(crate):
@@ -98,12 +125,15 @@ def doubles(kinds, uses):
         for name, stands in sorted(kinds[kind].items()):
             for file, line in stands:
                 defined = kinds["definition"].get(name, [])
-                if defined and not any(is_one(name, file, other, uses) for other, _ in defined):
+                said = ensured(pathlib.Path(file), line) if kind == "function" else None
+                if defined and not any(is_one(name, file, other, uses, said) for other, _ in defined):
                     yield f"{kind} and definition", name, [(file, line), *defined]
 
 
-def is_one(name, source, defined, uses):
-    """Whether what a source file and a file of definitions have under one name is one thing."""
+def is_one(name, source, defined, uses, said):
+    """Whether what a source file and a file of definitions have under one name is one thing; `said` is what a function ensures."""
+    if said is not None:
+        return (defined, name) in uses[source] and re.search(rf"(?<![\w'.-]){re.escape(name)}(?![\w'-])", said) is not None
     crate = pathlib.Path(source).parts[1]
     return (defined, name) in uses[source] or any({(defined, name), (crate, name)} <= taken for taken in uses.values())
 

@@ -5,14 +5,14 @@
 --   has_begun mark   a head has begun that hasn't ended
 --   IsBetween mark   none has
 use Rattle.std.specs.Prelude.{◌≡◌, Bool, true, false}
-use Rattle.complete.specs.declared.heads.Mark.{Mark}
+use Rattle.complete.specs.declared.heads.HeadMark.{HeadMark}
 
-abbrev pub has_begun : Mark → Bool
-has_begun Mark.Between = false
-has_begun Mark.BetweenReturn = false
-has_begun Mark.Text = true
-has_begun Mark.Line = true
-has_begun Mark.LineReturn = true
+abbrev pub has_begun : HeadMark → Bool
+has_begun HeadMark.Between = false
+has_begun HeadMark.BetweenReturn = false
+has_begun HeadMark.Text = true
+has_begun HeadMark.Line = true
+has_begun HeadMark.LineReturn = true
 
-abbrev pub IsBetween : Mark → Type 0
+abbrev pub IsBetween : HeadMark → Type 0
 IsBetween mark = has_begun mark ≡ false

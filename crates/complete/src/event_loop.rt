@@ -2,12 +2,12 @@
 ghost use Rattle.std.specs.Prelude.{◌≡◌, ◌↔◌, ℕ, ◌+◌, ◌<◌, true, false, IfOk, IfSome, IsSome, vec_len, vec_capacity};
 ghost use Rattle.std.specs.Net.Addr.{IsLoopbackV4, IsLoopbackV6, MatchIp};
 ghost use Rattle.std.specs.Net.Socket.{socket_ip, socket_port};
-ghost use Rattle.complete.specs.Living.{IsTurn};
+ghost use Rattle.complete.specs.Living.{IsSocketTurn};
 ghost use Rattle.complete.specs.Seats.{HasSeat};
 
 use crate::acceptor::Acceptor;
 use crate::bounds::{ACCEPT_PAUSE, SWEEP};
-use crate::sockets::{Sockets, Turn};
+use crate::sockets::{SocketTurn, Sockets};
 use mio::net::{TcpListener, TcpStream};
 use mio::{Events, Interest, Poll, Token};
 use std::io::{self, ErrorKind};
@@ -62,8 +62,8 @@ impl EventLoop {
         live: &Vec<u32>,
         comes: Option<u32>,
         into: &mut [u8],
-    ) -> io::Result<Turn>
-        ensures { IfOk result (λ t. IsTurn live.now.items comes into.new t) }
+    ) -> io::Result<SocketTurn>
+        ensures { IfOk result (λ t. IsSocketTurn live.now.items comes into.new t) }
     {
         for _ in 0..u64::MAX {
             if let Some(turn) = self.round(clock, live, comes, into)? {
@@ -80,8 +80,8 @@ impl EventLoop {
         live: &Vec<u32>,
         comes: Option<u32>,
         into: &mut [u8],
-    ) -> io::Result<Option<Turn>>
-        ensures { IfOk result (λ o. IfSome o (λ t. IsTurn live.now.items comes into.new t)) }
+    ) -> io::Result<Option<SocketTurn>>
+        ensures { IfOk result (λ o. IfSome o (λ t. IsSocketTurn live.now.items comes into.new t)) }
     {
         if self.sockets.is_round_over() {
             self.look(clock, comes.is_some())?;
@@ -95,7 +95,7 @@ impl EventLoop {
         let is_awaited = self.admits_now();
         if let Some(number) = comes {
             if is_awaited && self.admit(number) {
-                return Ok(Some(Turn::Opened(number)));
+                return Ok(Some(SocketTurn::Opened(number)));
             }
         }
         if makes_way(comes, is_awaited, !self.acceptor.is_paused()) {

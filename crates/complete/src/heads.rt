@@ -7,7 +7,7 @@ ghost use Rattle.complete.specs.HeadMarks.{has_begun, IsBetween};
 
 /// What the bytes so far end with.
 #[derive(Clone, Copy, Debug, PartialEq, Eq)]
-pub enum Mark {
+pub enum HeadMark {
     /// No byte of a head, but maybe empty lines in front of one.
     Between,
     /// The same, and a CR that may belong to an empty line.
@@ -20,26 +20,26 @@ pub enum Mark {
     LineReturn,
 }
 
-impl Mark {
+impl HeadMark {
     /// Whether a head has begun that hasn't ended.
     pub fn has_begun(self) -> bool
         ensures { result ≡ has_begun self }
     {
         match self {
-            Mark::Between | Mark::BetweenReturn => false,
-            Mark::Text | Mark::Line | Mark::LineReturn => true,
+            HeadMark::Between | HeadMark::BetweenReturn => false,
+            HeadMark::Text | HeadMark::Line | HeadMark::LineReturn => true,
         }
     }
 
     // With a byte more.
-    fn behind(self, byte: u8) -> Mark {
+    fn behind(self, byte: u8) -> HeadMark {
         match (self, byte) {
-            (Mark::Between | Mark::BetweenReturn, b'\n') => Mark::Between,
-            (Mark::Between, b'\r') => Mark::BetweenReturn,
-            (Mark::Text, b'\n') => Mark::Line,
-            (Mark::Line | Mark::LineReturn, b'\n') => Mark::Between,
-            (Mark::Line, b'\r') => Mark::LineReturn,
-            _ => Mark::Text,
+            (HeadMark::Between | HeadMark::BetweenReturn, b'\n') => HeadMark::Between,
+            (HeadMark::Between, b'\r') => HeadMark::BetweenReturn,
+            (HeadMark::Text, b'\n') => HeadMark::Line,
+            (HeadMark::Line | HeadMark::LineReturn, b'\n') => HeadMark::Between,
+            (HeadMark::Line, b'\r') => HeadMark::LineReturn,
+            _ => HeadMark::Text,
         }
     }
 }
@@ -50,13 +50,13 @@ pub struct FirstPart {
     /// How many.
     pub count: usize,
     /// What they end with.
-    pub mark: Mark,
+    pub mark: HeadMark,
     /// A head ends among them.
     pub has_end: bool,
 }
 
 /// The bytes up to the end of the first head, all where none ends or where all are wanted. Those before them end with `mark`.
-pub fn part_of(bytes: &[u8], mark: Mark, is_whole: bool) -> FirstPart
+pub fn first_part(bytes: &[u8], mark: HeadMark, is_whole: bool) -> FirstPart
     ensures within { result.count ≤ length bytes.now }
     ensures some { 0 < length bytes.now → 0 < result.count }
     ensures whole { is_whole ≡ true → result.count ≡ length bytes.now }

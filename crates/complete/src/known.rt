@@ -12,7 +12,7 @@ pub struct Known<C> {
 }
 
 /// Where a name stands in the list, if it is known.
-pub fn place_of<C>(known: &[Known<C>], name: &str) -> Option<usize>
+pub fn known_place<C>(known: &[Known<C>], name: &str) -> Option<usize>
     ensures { MatchOption result (content_of known.now name.now ≡ None) (IsKnownAt known.now name.now) }
 {
     for (i, entry) in known.iter().enumerate() {

@@ -1,6 +1,6 @@
 //! The sockets of the connections, and whose turn it is.
 ghost use Rattle.std.specs.Prelude.{◌≡◌, ℕ, Option, IfSome, true};
-ghost use Rattle.complete.specs.{Living.{IsTurn, IsSocketStep}, Seats.{HasSeat}};
+ghost use Rattle.complete.specs.{Living.{IsSocketTurn, IsSocketStep}, Seats.{HasSeat}};
 
 use crate::bounds::{KEPT_MOST, SWEEP, TURNS};
 use crate::living::lives;
@@ -16,7 +16,7 @@ use std::time::Instant;
 
 /// What came.
 #[derive(Clone, Copy, Debug, PartialEq, Eq)]
-pub enum Turn {
+pub enum SocketTurn {
     /// The connection that was to come.
     Opened(u32),
     /// So many bytes on a live connection.
@@ -27,7 +27,7 @@ pub enum Turn {
 
 // What a socket's turn gave.
 #[derive(Clone, Copy, Debug, PartialEq, Eq)]
-pub enum Step {
+pub enum SocketStep {
     // So many bytes on a live connection, and whether there may be more.
     Piece(u32, usize, bool),
     // The end of a live connection, which is done with.
@@ -281,36 +281,41 @@ impl Sockets {
     }
 
     /// The next turn of a socket. It may give nothing. Where nobody else waits, it gives all that was read.
-    pub fn serve(&mut self, live: &Vec<u32>, into: &mut [u8], is_awaited: bool) -> Option<Turn>
-        ensures { IfSome result (λ t. (o : Option ℕ) → IsTurn live.now.items o into.new t) }
+    pub fn serve(
+        &mut self,
+        live: &Vec<u32>,
+        into: &mut [u8],
+        is_awaited: bool,
+    ) -> Option<SocketTurn>
+        ensures { IfSome result (λ t. (o : Option ℕ) → IsSocketTurn live.now.items o into.new t) }
     {
         let key = self.pop()?;
         let is_whole = !is_awaited && self.kept == 0 && self.waiting() == 0;
         match step_of(self.slab.get_mut(key), live, into, is_whole, self.now) {
-            Step::Piece(number, count, may_have_more) => {
+            SocketStep::Piece(number, count, may_have_more) => {
                 if may_have_more {
                     self.queue(key, true);
                 }
-                Some(Turn::Piece(number, count))
+                Some(SocketTurn::Piece(number, count))
             }
-            Step::Ended(number) => {
+            SocketStep::Ended(number) => {
                 let _ = self.take_place(number);
                 self.remove(key);
-                Some(Turn::Ended(number))
+                Some(SocketTurn::Ended(number))
             }
-            Step::Late(number) => {
+            SocketStep::Late(number) => {
                 self.close(number);
-                Some(Turn::Ended(number))
+                Some(SocketTurn::Ended(number))
             }
-            Step::Again => {
+            SocketStep::Again => {
                 self.queue(key, true);
                 None
             }
-            Step::Done => {
+            SocketStep::Done => {
                 self.remove(key);
                 None
             }
-            Step::Rests => None,
+            SocketStep::Rests => None,
         }
     }
 
@@ -402,35 +407,35 @@ fn step_of(
     into: &mut [u8],
     is_whole: bool,
     now: Instant,
-) -> Step
+) -> SocketStep
     ensures { IsSocketStep live.now.items into.new result }
 {
     let Some(socket) = socket else {
-        return Step::Rests;
+        return SocketStep::Rests;
     };
     socket.unqueue();
     let number = socket.number();
     if !lives(live, number) {
         return match socket.linger(now) {
-            Linger::Rests => Step::Rests,
-            Linger::Again => Step::Again,
-            Linger::Done => Step::Done,
+            Linger::Rests => SocketStep::Rests,
+            Linger::Again => SocketStep::Again,
+            Linger::Done => SocketStep::Done,
         };
     }
     if socket.is_dead() {
-        return Step::Ended(number);
+        return SocketStep::Ended(number);
     }
     if socket.is_stuck() {
-        return Step::Late(number);
+        return SocketStep::Late(number);
     }
     if socket.is_pending() {
-        return Step::Rests;
+        return SocketStep::Rests;
     }
     match socket.read(into, is_whole, now) {
-        Ok(count) => Step::Piece(number, count, socket.may_have_more()),
-        Err(Pause::Blocked) if socket.is_late() => Step::Late(number),
-        Err(Pause::Blocked) if socket.is_spared() => Step::Ended(number),
-        Err(Pause::Blocked) => Step::Rests,
-        Err(Pause::Ended) => Step::Ended(number),
+        Ok(count) => SocketStep::Piece(number, count, socket.may_have_more()),
+        Err(Pause::Blocked) if socket.is_late() => SocketStep::Late(number),
+        Err(Pause::Blocked) if socket.is_spared() => SocketStep::Ended(number),
+        Err(Pause::Blocked) => SocketStep::Rests,
+        Err(Pause::Ended) => SocketStep::Ended(number),
     }
 }

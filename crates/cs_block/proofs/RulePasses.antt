@@ -36,7 +36,7 @@ judging w head docs c = let all = items_start head c in record {
   order_kept = keeps_start _ _ _ all;
 }
 
--- what a call of row_of gives, at the document before
+-- what a call of row_at gives, at the document before
 pub is_row : (w : Weights) (head : BlockHead) (docs : ℕ) (c : BlockColumns) (i at n : ℕ) (last : Option Post) (before : ℕ) (word score order : Option ℕ) (row : Post)
     → HasJudged w head docs c i at last before word score order
     → row ≡ row_at head.lo (before + n) (drop (2 * i) c.words) (drop (4 * i) c.positions) (drop i c.scores)

@@ -2,7 +2,7 @@
 --
 --   seen_columns c    the bytes of each column
 use Rattle.cs_model_index.specs.BlockRules.{BlockColumns}
-use Rattle.cs_block.specs.declared.columns.Columns.{Columns as Cut}
+use Rattle.cs_block.specs.declared.columns.CutColumns.{CutColumns as Cut}
 
 -- column by column
 abbrev pub seen_columns : Cut → BlockColumns

@@ -6,9 +6,9 @@ ghost use Rattle.cs_base.specs.declared.content.doc.Post.{Post};
 ghost use Rattle.cs_model_index.specs.{Blocks.{IsShaped}, BlockRules.{IsBlock, item_row, block_items, judged, judged_columns}};
 ghost use Rattle.cs_block.specs.{BlockReading.{Decodes, HasColumns}, ColumnsView.{seen_columns}};
 
-use crate::columns::{Columns, cut, doc_here, row_of};
+use crate::columns::{CutColumns, block_columns, doc_here, row_at};
 use crate::fault::BlockFault;
-use crate::judging::judge;
+use crate::judging::judged_columns;
 use crate::rules::keeps_rules;
 use crate::runs::push_runs;
 use cs_base::{BlockHead, Broken, Weights};
@@ -59,9 +59,9 @@ pub fn decode_reserved(
     ensures err { OnErr result (into.new.posts ≡ into.old.posts) }
 {
     let len = into.len();
-    let columns = cut(bytes, head);
+    let columns = block_columns(bytes, head);
     if !push_rows(&columns, head, docs, weights, into) {
-        if let Some(broken) = judge(&columns, head, docs, weights) {
+        if let Some(broken) = judged_columns(&columns, head, docs, weights) {
             into.truncate(len);
             return Err(broken);
         }
@@ -72,7 +72,7 @@ pub fn decode_reserved(
 // Adds rows up to the first that breaks a rule, and says whether there is none. Where no row does,
 // the runs are all rows; where one does, the rows of its run are gone over one by one.
 fn push_rows(
-    columns: &Columns<'_>,
+    columns: &CutColumns<'_>,
     head: &BlockHead,
     docs: u32,
     weights: Weights,
@@ -94,7 +94,7 @@ fn push_rows(
         let Some((doc, next)) = doc_here(columns.gaps, at, before, docs) else {
             return false;
         };
-        let row = row_of(columns, head.lo, doc, i as usize);
+        let row = row_at(columns, head.lo, doc, i as usize);
         if !keeps_rules(head, weights, last, row) {
             return false;
         }

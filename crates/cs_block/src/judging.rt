@@ -4,12 +4,17 @@ ghost use Rattle.std.specs.Option.{option_map, option_or};
 ghost use Rattle.cs_model_index.specs.{Blocks.{IsShaped}, BlockRules.{block_items, broken_at, codes_break, first_broken, judged_columns, rules}};
 ghost use Rattle.cs_block.specs.{BlockReading.{HasColumns}, ColumnsView.{seen_columns}};
 
-use crate::columns::{Columns, doc_here, gap_here, row_of};
+use crate::columns::{CutColumns, doc_here, gap_here, row_at};
 use crate::rules::{is_after, is_in_words, is_scored};
 use cs_base::{BlockHead, Broken, Post, Weights};
 
 /// The first broken rule, if one is broken.
-pub fn judge(columns: &Columns<'_>, head: &BlockHead, docs: u32, weights: Weights) -> Option<Broken>
+pub fn judged_columns(
+    columns: &CutColumns<'_>,
+    head: &BlockHead,
+    docs: u32,
+    weights: Weights,
+) -> Option<Broken>
     requires shaped { IsShaped head.now head.now.len }
     requires sized { HasColumns head.now (seen_columns columns.now) }
 
@@ -44,7 +49,7 @@ pub fn bad_code(gaps: &[u8], rows: u32) -> Option<usize>
 
 // The first broken rule on rows, over a gap column that holds.
 fn broken_row(
-    columns: &Columns<'_>,
+    columns: &CutColumns<'_>,
     head: &BlockHead,
     docs: u32,
     weights: Weights,
@@ -70,7 +75,7 @@ fn broken_row(
                 at: at as u32,
             });
         };
-        let row = row_of(columns, head.lo, doc, i as usize);
+        let row = row_at(columns, head.lo, doc, i as usize);
         bad_word = keep(bad_word, is_in_words(head, row), words_at + 2 * i);
         bad_score = keep(
             bad_score,

@@ -4,7 +4,7 @@ ghost use Rattle.std.specs.Ordering.{is_lt};
 ghost use Rattle.cs_base.specs.{content.Orders.{by_place}, declared.content.limits.TheConstants.{MAX_WORDS}};
 ghost use Rattle.cs_block.specs.RowRuns.{AreWords, ArePositions, AreScores, AreOnward, AreAscending};
 
-use crate::columns::{half_at, number_at};
+use crate::columns::{four_bytes_at, half_at};
 use cs_base::{MAX_POSITION, Weights};
 
 /// The words of as many rows as there is room for, from row `first` on, and whether all are words of the block.
@@ -32,7 +32,7 @@ pub fn positions_in(bytes: &[u8], first: usize, facet: bool, out: &mut [u32]) ->
     let mut least = u32::MAX;
     let mut most: u32 = 0;
     for i in 0..out.len() {
-        let pos = number_at(bytes, 4 * (first + i));
+        let pos = four_bytes_at(bytes, 4 * (first + i));
         least = least.min(pos);
         most = most.max(pos);
         out[i] = pos;

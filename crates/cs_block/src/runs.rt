@@ -4,7 +4,7 @@ ghost use Rattle.cs_base.specs.declared.content.doc.Post.{Post};
 ghost use Rattle.cs_model_index.specs.Blocks.{IsShaped};
 ghost use Rattle.cs_block.specs.{BlockReading.{HasColumns}, ColumnsView.{seen_columns}, RowRuns.{row_in}, Pass.{HasPushed}};
 
-use crate::columns::Columns;
+use crate::columns::CutColumns;
 use crate::rules::is_after;
 use crate::run_columns::{are_ascending, are_scores, positions_in, words_in};
 use crate::run_docs::docs_in;
@@ -29,7 +29,7 @@ pub struct Reached {
 
 /// Adds rows run by run, up to the first run in which a row breaks a rule.
 pub fn push_runs(
-    columns: &Columns<'_>,
+    columns: &CutColumns<'_>,
     head: &BlockHead,
     docs: u32,
     weights: Weights,
@@ -74,7 +74,7 @@ pub fn push_runs(
 // Adds as many rows as the three slices are long, if none of them breaks a rule. The slices take the
 // rows' documents, words and positions.
 fn push_run(
-    columns: &Columns<'_>,
+    columns: &CutColumns<'_>,
     head: &BlockHead,
     docs: u32,
     weights: Weights,

@@ -3,7 +3,7 @@ ghost use Rattle.std.specs.Prelude.{◌≡◌, true, length, [], IfOk, OnErr};
 ghost use Rattle.cs_model_index.specs.{Blocks.{IsShaped}, BlockRules.{block_columns}};
 ghost use Rattle.cs_block.specs.BlockScores.{HasScores};
 
-use crate::columns::cut;
+use crate::columns::block_columns;
 use crate::run_columns::are_scores;
 use cs_base::{BlockHead, Memory, Weights};
 
@@ -22,7 +22,7 @@ pub fn read_scores(
     ensures err { OnErr result (scores.new.items ≡ []) }
     ensures column { IfOk result (λ whole. scores.new.items ≡ (block_columns head.now bytes.now).scores) }
 {
-    let columns = cut(bytes, head);
+    let columns = block_columns(bytes, head);
     scores.truncate(0);
     scores.extend_from_slice(columns.scores)?;
     Ok(are_scores(columns.scores, head.facet, weights))

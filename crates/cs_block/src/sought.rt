@@ -9,7 +9,7 @@ ghost use Rattle.cs_block.specs.BlockReading.{HasColumns};
 ghost use Rattle.cs_block.specs.ColumnsView.{seen_columns};
 ghost use Rattle.cs_block.specs.Sought.{CanBeSought, HasSought, IsOfBlock, is_sought, passes, row_with, rows_with};
 
-use crate::columns::{Columns, cut, half_at, row_of};
+use crate::columns::{CutColumns, block_columns, half_at, row_at};
 use crate::rules::{is_in_words, is_scored};
 use crate::run_docs::docs_in;
 use cs_base::{BlockHead, Memory, Post, Weights};
@@ -71,7 +71,7 @@ fn put_sought(
 
     ensures ok { IfOk result (λ whole. whole ≡ true → HasSought weights head.now bytes.now words.0 words.1 listed.now into.new.items) }
 {
-    let columns = cut(bytes, head);
+    let columns = block_columns(bytes, head);
     docs.resize(head.rows as usize, 0)?;
     if docs_in(columns.gaps, 0, 0, listed.len() as u32, docs).is_none() {
         return Ok(false);
@@ -88,7 +88,7 @@ fn put_sought(
 
 /// Whether a word's number is `lo` or more and below `hi`, and a document is listed.
 #[inline]
-pub fn is_sought(doc: u32, word: u32, lo: u32, hi: u32, listed: &[bool]) -> bool
+pub fn are_sought(doc: u32, word: u32, lo: u32, hi: u32, listed: &[bool]) -> bool
     requires { doc < length listed.now }
 
     ensures { result ≡ ((nat_le lo word && nat_lt word hi) && slice_index_or listed.now doc false) }
@@ -107,7 +107,7 @@ fn is_inside(head: &BlockHead, words: (u32, u32)) -> bool
 
 // Adds the rows that are sought, some rows at a time, and says whether all of them are of the block's kind and have its words.
 fn add_sought(
-    columns: &Columns<'_>,
+    columns: &CutColumns<'_>,
     head: &BlockHead,
     weights: Weights,
     docs: &[u32],
@@ -134,7 +134,7 @@ fn add_sought(
 
 // Puts the places of those of some rows that pass to the front of a slice, without a jump, and says how many there are.
 fn find_rows(
-    columns: &Columns<'_>,
+    columns: &CutColumns<'_>,
     head: &BlockHead,
     docs: &[u32],
     wanted: &Wanted<'_>,
@@ -162,14 +162,14 @@ fn find_rows(
     for i in from..to {
         places[found] = i;
         let word = head.lo + half_at(columns.words, 2 * i);
-        found += usize::from(is_sought(docs[i], word, lo, hi, listed));
+        found += usize::from(are_sought(docs[i], word, lo, hi, listed));
     }
     found
 }
 
 // Adds the rows at these places, and says whether all of them are of the block's kind and have its words.
 fn add_rows(
-    columns: &Columns<'_>,
+    columns: &CutColumns<'_>,
     head: &BlockHead,
     weights: Weights,
     docs: &[u32],
@@ -187,7 +187,7 @@ fn add_rows(
     into.reserve(places.len())?;
     let mut kept = true;
     for place in places {
-        let row = row_of(columns, head.lo, docs[*place], *place);
+        let row = row_at(columns, head.lo, docs[*place], *place);
         kept &= is_in_words(head, row) & is_scored(head.facet, weights, row);
         into.push_reserved(row);
     }

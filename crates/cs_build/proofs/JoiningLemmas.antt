@@ -40,10 +40,10 @@ use Rattle.cs_model_index.proofs.Listings.{any_listed, each_listed, filter_membe
 use Rattle.cs_model_index.proofs.NumberedLemmas.{numbered_of_rows, posts_ascend}
 use Rattle.cs_vocab.specs.Ranges.{AreNumbers, IsBelow}
 use Rattle.cs_build.specs.Building.{corpus_of_rows}
-use Rattle.cs_build.specs.Joining.{by_post, held_posts, joined_posts, moved}
+use Rattle.cs_build.specs.Joining.{by_numbers, held_posts, joined_posts, moved_post}
 use Rattle.cs_build.specs.WordRuns.{AreParted, is_within}
 use Rattle.cs_build.specs.declared.parting.Run.{Run}
-use Rattle.cs_build.proofs.BlockOrder.{by_post_exact, by_post_total, posts_up}
+use Rattle.cs_build.proofs.BlockOrder.{by_numbers_exact, by_numbers_total, posts_up}
 use Rattle.cs_build.proofs.MadeLemmas.{same_words}
 
 -- ---- lists
@@ -75,15 +75,15 @@ pub held_end : (bs : List Cols) (k : ℕ) → length bs ≤ k → held_posts (dr
 held_end bs k le = ap held_posts (drop_all k bs le)
 
 pub moved_next : (shift : List ℕ) (n : ℕ) (bs : List Cols) (k : ℕ) (b : Cols) → k < length bs → b ≡ get_or bs k b
-    → map (moved shift n) (held_posts (drop k bs)) ≡ map (moved shift n) b.posts ++ map (moved shift n) (held_posts (drop (k + 1) bs))
-moved_next shift n bs k b lt is = ap (map (moved shift n)) (held_next bs k b lt is) ∙ map-append (moved shift n) b.posts (held_posts (drop (k + 1) bs))
+    → map (moved_post shift n) (held_posts (drop k bs)) ≡ map (moved_post shift n) b.posts ++ map (moved_post shift n) (held_posts (drop (k + 1) bs))
+moved_next shift n bs k b lt is = ap (map (moved_post shift n)) (held_next bs k b lt is) ∙ map-append (moved_post shift n) b.posts (held_posts (drop (k + 1) bs))
 
 -- ---- joined posts
 pub joined_words : (a : Image) (first : List ℕ) (b : Image) (second : List ℕ)
     → map (λ p. p.word) (joined_posts a first b second) ≡ map (λ p. get_or first p.word 0) (image_posts a) ++ map (λ p. get_or second p.word 0) (image_posts b)
 joined_words a first b second =
-    map-append (λ (p : Post). p.word) (map (moved first 0) (image_posts a)) (map (moved second (length a.titles)) (image_posts b))
-    ∙ ap₂ (λ x y. x ++ y) (map_map (moved first 0) (λ p. p.word) (image_posts a)) (map_map (moved second (length a.titles)) (λ p. p.word) (image_posts b))
+    map-append (λ (p : Post). p.word) (map (moved_post first 0) (image_posts a)) (map (moved_post second (length a.titles)) (image_posts b))
+    ∙ ap₂ (λ x y. x ++ y) (map_map (moved_post first 0) (λ p. p.word) (image_posts a)) (map_map (moved_post second (length a.titles)) (λ p. p.word) (image_posts b))
 
 all_mapped : {X Y : Type 0} (f : X → Y) (P : Y → Type 0) (xs : List X) → AllByRecursion P (map f xs) → AllByRecursion (λ x. P (f x)) xs
 all_mapped f P [] h = tt
@@ -94,8 +94,8 @@ mapped_all f P [] h = tt
 mapped_all f P (x ∷ xs) h = (h.0, mapped_all f P xs h.1)
 
 -- what holds of moved posts
-pub all_moved : (shift : List ℕ) (n : ℕ) (P : Post → Type 0) (posts : List Post) → All P (map (moved shift n) posts) → All (λ p. P (moved shift n p)) posts
-all_moved shift n P posts h = All-from_recursion (λ p. P (moved shift n p)) posts (all_mapped (moved shift n) P posts (recursion_from_All P (map (moved shift n) posts) h))
+pub all_moved : (shift : List ℕ) (n : ℕ) (P : Post → Type 0) (posts : List Post) → All P (map (moved_post shift n) posts) → All (λ p. P (moved_post shift n p)) posts
+all_moved shift n P posts h = All-from_recursion (λ p. P (moved_post shift n p)) posts (all_mapped (moved_post shift n) P posts (recursion_from_All P (map (moved_post shift n) posts) h))
 
 -- ---- rows and their image
 module _ (ws : List (List ℕ)) (posts : List Post) (below : All (λ p. p.word < length ws) posts) (words : ws ≡ distinct_words (rows_at ws posts)) where
@@ -133,26 +133,26 @@ module _ (ws : List (List ℕ)) (posts : List Post) (below : All (λ p. p.word <
   known = subst (λ x. AllByRecursion (HasWord x) listed) (sym words_listed) (known_words listed)
 
   -- the posts in order
-  in_order_posts : IsStrictlySortedBy by_spot listed → numbered ws listed ≡ members_in by_post posts
+  in_order_posts : IsStrictlySortedBy by_spot listed → numbered ws listed ≡ members_in by_numbers posts
   in_order_posts spots =
-      members_are by_post by_post_total by_post_exact (numbered ws listed) posts (posts_up (numbered ws listed) (posts_ascend ws up listed known spots))
+      members_are by_numbers by_numbers_total by_numbers_exact (numbered ws listed) posts (posts_up (numbered ws listed) (posts_ascend ws up listed known spots))
       (λ q.
-      any_through (post_of ws) (eq_by_cmp by_post q) listed
-      ∙ any_listed by_row by_row_total by_row_exact (λ r. eq_by_cmp by_post q (post_of ws r)) rows
-      ∙ sym (any_through (post_of ws) (eq_by_cmp by_post q) rows)
-      ∙ ap (list_any (eq_by_cmp by_post q)) all_numbered)
+      any_through (post_of ws) (eq_by_cmp by_numbers q) listed
+      ∙ any_listed by_row by_row_total by_row_exact (λ r. eq_by_cmp by_numbers q (post_of ws r)) rows
+      ∙ sym (any_through (post_of ws) (eq_by_cmp by_numbers q) rows)
+      ∙ ap (list_any (eq_by_cmp by_numbers q)) all_numbered)
 
   -- and those of each block
   pub ordered_blocks : IsStrictlySortedBy by_spot (members_in by_row (rows_at ws posts)) → (runs : List Run) (blocks ordered : List Cols) → map (λ b. b.posts) blocks ≡ map (λ run. filter (is_within run) posts) runs
-      → map (λ b. b.posts) ordered ≡ map (λ b. members_in by_post b.posts) blocks → map (λ b. b.posts) ordered ≡ map (λ run. filter (is_within run) (numbered ws (members_in by_row (rows_at ws posts)))) runs
+      → map (λ b. b.posts) ordered ≡ map (λ b. members_in by_numbers b.posts) blocks → map (λ b. b.posts) ordered ≡ map (λ run. filter (is_within run) (numbered ws (members_in by_row (rows_at ws posts)))) runs
   ordered_blocks spots runs blocks ordered are in_order =
       in_order
-      ∙ sym (map_map (λ (b : Cols). b.posts) (members_in by_post) blocks)
-      ∙ ap (map (members_in by_post)) are
-      ∙ map_map (λ (run : Run). filter (is_within run) posts) (members_in by_post) runs
-      ∙ map_alike (λ run. members_in by_post (filter (is_within run) posts)) (λ run. filter (is_within run) (numbered ws listed)) runs
-      (all_of (λ run. members_in by_post (filter (is_within run) posts) ≡ filter (is_within run) (numbered ws listed))
-      (λ run. sym (filter_members by_post by_post_total by_post_exact (is_within run) posts) ∙ ap (filter (is_within run)) (sym (in_order_posts spots))) runs)
+      ∙ sym (map_map (λ (b : Cols). b.posts) (members_in by_numbers) blocks)
+      ∙ ap (map (members_in by_numbers)) are
+      ∙ map_map (λ (run : Run). filter (is_within run) posts) (members_in by_numbers) runs
+      ∙ map_alike (λ run. members_in by_numbers (filter (is_within run) posts)) (λ run. filter (is_within run) (numbered ws listed)) runs
+      (all_of (λ run. members_in by_numbers (filter (is_within run) posts) ≡ filter (is_within run) (numbered ws listed))
+      (λ run. sym (filter_members by_numbers by_numbers_total by_numbers_exact (is_within run) posts) ∙ ap (filter (is_within run)) (sym (in_order_posts spots))) runs)
 
   module _ (once : length posts ≤ length (members_in by_row (rows_at ws posts))) where
     counts_at : (w : List ℕ) → count_in rows w ≡ count_in listed w

@@ -2,7 +2,7 @@
 ghost use Rattle.std.specs.Prelude.{◌≡◌, true, map, IfOk};
 ghost use Rattle.std.specs.List.Sorted.{IsStrictlySortedBy};
 ghost use Rattle.cs_base.specs.content.Members.{members_in};
-ghost use Rattle.cs_build.specs.Joining.{by_post, place_post};
+ghost use Rattle.cs_build.specs.Joining.{by_numbers, place_post};
 
 use cs_base::{Memory, Post};
 use cs_cols::Cols;
@@ -19,7 +19,7 @@ struct Place {
 
 /// The posts of each block by document, position and word, each once. A block that is in this order already isn't moved.
 pub(crate) fn in_order_each(alloc: Global, blocks: Vec<Cols>) -> Result<Vec<Cols>, Memory>
-    ensures { IfOk result (λ ordered. map (λ b. b.posts) ordered.items ≡ map (λ b. members_in by_post b.posts) blocks.items) }
+    ensures { IfOk result (λ ordered. map (λ b. b.posts) ordered.items ≡ map (λ b. members_in by_numbers b.posts) blocks.items) }
 {
     let mut ordered = Vec::with_capacity(alloc, blocks.len())?;
     for block in blocks {
@@ -29,7 +29,7 @@ pub(crate) fn in_order_each(alloc: Global, blocks: Vec<Cols>) -> Result<Vec<Cols
 }
 
 fn in_order(alloc: Global, block: Cols) -> Result<Cols, Memory>
-    ensures { IfOk result (λ ordered. ordered.posts ≡ members_in by_post block.posts) }
+    ensures { IfOk result (λ ordered. ordered.posts ≡ members_in by_numbers block.posts) }
 {
     if are_sorted(&block) {
         return Ok(block);
@@ -42,7 +42,7 @@ fn in_order(alloc: Global, block: Cols) -> Result<Cols, Memory>
 
 // Whether each post comes before the next one.
 fn are_sorted(block: &Cols) -> bool
-    ensures { result ≡ true → IsStrictlySortedBy by_post block.now.posts }
+    ensures { result ≡ true → IsStrictlySortedBy by_numbers block.now.posts }
 {
     for i in 1..block.len() {
         if !block.get(i - 1).is_before(block.get(i)) {

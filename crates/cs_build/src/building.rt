@@ -14,9 +14,9 @@ ghost use Rattle.cs_build.specs.WordRuns.{AreParted};
 ghost use Rattle.cs_vocab.specs.Ranges.{AreNumbers, IsBelow};
 
 use crate::fault::BuildFault;
-use crate::filling::blocks_of;
-use crate::heads::heads_of;
-use crate::ordering::in_order;
+use crate::filling::run_blocks;
+use crate::heads::run_heads;
+use crate::ordering::rows_in_order;
 use crate::parting::{Run, counts_of, parted};
 use crate::row_columns::RowColumns;
 use cs_base::{Doc, MAX_WORDS, Memory, Row, Seq, Text, Weights};
@@ -49,7 +49,7 @@ pub fn image(
     ensures writable { length (title_bytes (map title_of docs)) < 2 ^ 32 → IfOk result CanBeWritten }
     ensures limits { KeepLimits weights (map title_of docs) rows → IfOk result HasLimits }
 {
-    let rows = in_order(alloc, rows)?;
+    let rows = rows_in_order(alloc, rows)?;
     let columns = RowColumns::of_rows(alloc, rows)?;
     let titles = titles_of(alloc, docs)?;
     image_of_columns(alloc, columns, titles, target, weights)
@@ -108,8 +108,8 @@ fn built(
         return Err(BuildFault::TooManyWords);
     }
     let runs = runs_of(alloc, &words, numbers.as_slice(), target)?;
-    let blocks = blocks_of(alloc, &runs, words.len(), numbers.as_slice(), &form)?;
-    let heads = heads_of(alloc, &words, &runs, &blocks)?;
+    let blocks = run_blocks(alloc, &runs, words.len(), numbers.as_slice(), &form)?;
+    let heads = run_heads(alloc, &words, &runs, &blocks)?;
     Ok(Image {
         titles,
         words,

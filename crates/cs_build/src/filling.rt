@@ -14,7 +14,7 @@ use cs_cols::Cols;
 use std::alloc::Global;
 
 /// A block for each run: the posts of its words, in their order. There are so many words.
-pub(crate) fn blocks_of(
+pub(crate) fn run_blocks(
     alloc: Global,
     runs: &[Run],
     words: u32,
@@ -29,7 +29,7 @@ pub(crate) fn blocks_of(
 
     ensures { IfOk result (λ blocks. map (λ b. b.posts) blocks.items ≡ map (λ run. filter (is_within run) (posts_in form.now numbers.now)) runs.now) }
 {
-    let places = places_of(alloc, runs, words)?;
+    let places = run_places(alloc, runs, words)?;
     let mut blocks = empty_blocks(alloc, runs)?;
     fill(&mut blocks, &places, numbers, form);
     Ok(blocks)
@@ -157,7 +157,7 @@ fn fill_words(blocks: &mut [Cols], places: &[u32], numbers: &[u32], doc: u32, po
 }
 
 /// For each word the index of the run that has it.
-pub(crate) fn places_of(alloc: Global, runs: &[Run], words: u32) -> Result<Vec<u32>, Memory>
+pub(crate) fn run_places(alloc: Global, runs: &[Run], words: u32) -> Result<Vec<u32>, Memory>
     requires spans { AreSpans 0 runs.now words }
     requires few { length runs.now ≤ words }
 

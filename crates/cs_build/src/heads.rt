@@ -12,7 +12,7 @@ use cs_vocab::Vocab;
 use std::alloc::Global;
 
 /// What the directory says of each run and its block.
-pub(crate) fn heads_of(
+pub(crate) fn run_heads(
     alloc: Global,
     words: &Vocab,
     runs: &[Run],

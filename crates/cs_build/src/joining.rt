@@ -11,13 +11,13 @@ ghost use Rattle.cs_model_index.specs.Numbered.{rows_at};
 ghost use Rattle.cs_model_index.specs.declared.limits.TheConstants.{MAX_TARGET};
 ghost use Rattle.cs_file.specs.Writable.{CanBeWritten};
 ghost use Rattle.cs_build.specs.Building.{corpus_of_rows, KeepLimits};
-ghost use Rattle.cs_build.specs.Joining.{held_posts, joined_posts, joined_rows, moved};
+ghost use Rattle.cs_build.specs.Joining.{held_posts, joined_posts, joined_rows, moved_post};
 ghost use Rattle.cs_build.specs.WordRuns.{AreSpans, AreTaken, CanTake, CountsRows, is_within};
 
 use crate::block_order::in_order_each;
 use crate::building::runs_of;
-use crate::filling::{empty_blocks, places_of, push_at};
-use crate::heads::heads_of;
+use crate::filling::{empty_blocks, push_at, run_places};
+use crate::heads::run_heads;
 use crate::parting::Run;
 use cs_base::{Memory, Post, Seq, Text};
 use cs_cols::Cols;
@@ -61,7 +61,7 @@ pub fn joined_image(
     drop(numbers);
     let blocks = blocks_of_both(alloc, &runs, words.len(), a, first, b, second)?;
     let blocks = in_order_each(alloc, blocks)?;
-    let heads = heads_of(alloc, &words, &runs, &blocks)?;
+    let heads = run_heads(alloc, &words, &runs, &blocks)?;
     Ok(Image {
         titles,
         words,
@@ -152,7 +152,7 @@ fn blocks_of_both(
 
     ensures { IfOk result (λ blocks. map (λ b. b.posts) blocks.items ≡ map (λ run. filter (is_within run) (joined_posts a.now first.now b.now second.now)) runs.now) }
 {
-    let places = places_of(alloc, runs, words)?;
+    let places = run_places(alloc, runs, words)?;
     let mut blocks = empty_blocks(alloc, runs)?;
     fill_both(&mut blocks, &places, a, first, b, second);
     Ok(blocks)
@@ -184,9 +184,9 @@ fn fill_both(
 fn fill_moved(blocks: &mut [Cols], places: &[u32], from: &[Cols], shift: &[u32], docs: u32)
     requires shift { All (λ p. p.word < length shift.now) (held_posts from.now) }
     requires docs { All (λ p. p.doc + docs < 2 ^ 32) (held_posts from.now) }
-    requires room { CanTake places.now blocks.old (map (moved shift.now docs) (held_posts from.now)) }
+    requires room { CanTake places.now blocks.old (map (moved_post shift.now docs) (held_posts from.now)) }
 
-    ensures { AreTaken places.now (map (moved shift.now docs) (held_posts from.now)) blocks.old blocks.new }
+    ensures { AreTaken places.now (map (moved_post shift.now docs) (held_posts from.now)) blocks.old blocks.new }
 {
     for block in from {
         fill_block(blocks, places, block, shift, docs);
@@ -197,9 +197,9 @@ fn fill_moved(blocks: &mut [Cols], places: &[u32], from: &[Cols], shift: &[u32],
 fn fill_block(blocks: &mut [Cols], places: &[u32], block: &Cols, shift: &[u32], docs: u32)
     requires shift { All (λ p. p.word < length shift.now) block.now.posts }
     requires docs { All (λ p. p.doc + docs < 2 ^ 32) block.now.posts }
-    requires room { CanTake places.now blocks.old (map (moved shift.now docs) block.now.posts) }
+    requires room { CanTake places.now blocks.old (map (moved_post shift.now docs) block.now.posts) }
 
-    ensures { AreTaken places.now (map (moved shift.now docs) block.now.posts) blocks.old blocks.new }
+    ensures { AreTaken places.now (map (moved_post shift.now docs) block.now.posts) blocks.old blocks.new }
 {
     for i in 0..block.len() {
         let Post {

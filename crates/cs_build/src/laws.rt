@@ -22,7 +22,7 @@ pub fn images()
 /// The file of an image within the limits is an index file, of which this image is read; and an index file is the file
 /// of the image that is read of it, which is that of the corpus that is read of it. So the file of an accepted
 /// collection's image is an index file, of which this image and the collection's corpus are read.
-pub fn files()
+pub fn files_of_images()
     ensures accepted { FilesAreAccepted }
     ensures same { AcceptedAreFiles }
     ensures images { AcceptedAreImages }

@@ -20,7 +20,7 @@ struct Spot {
 
 /// The rows by document, position, word and score, each once. Rows that are in this order already, as those of a collection,
 /// aren't moved.
-pub(crate) fn in_order(alloc: Global, rows: Seq<Row>) -> Result<Seq<Row>, Memory>
+pub(crate) fn rows_in_order(alloc: Global, rows: Seq<Row>) -> Result<Seq<Row>, Memory>
     ensures ok { IfOk result (λ sorted. sorted ≡ members_in by_row rows) }
     ensures few { IfOk result (λ sorted. length sorted ≤ length rows) }
 {

@@ -1,6 +1,6 @@
 //! What is kept of one query.
 ghost use Rattle.std.specs.Prelude.{◌≡◌, ◌<◌, ◌^◌};
-ghost use Rattle.cs_model_kept.specs.Entries.{listed_count, entry_size};
+ghost use Rattle.cs_model_kept.specs.Entries.{listed_count, kept_entry_size};
 
 use cs_base::Base;
 use cs_cols::Cols;
@@ -8,14 +8,14 @@ use std::marker::Model;
 
 /// What is kept of a query, seen as its base and the posts of its rows.
 #[derive(Drop)]
-pub struct Entry {
+pub struct KeptEntry {
     /// The hits from which the query's last part goes on.
     pub base: Base,
     /// The rows of that part in them, by document, position and word.
     pub rows: Cols,
 }
 
-impl Model for Entry {
+impl Model for KeptEntry {
     ghost use Rattle.cs_base.specs.declared.content.doc.Post.{Post};
     ghost use Rattle.cs_model_kept.specs.Entries.{EntryOf};
 
@@ -24,10 +24,10 @@ impl Model for Entry {
     ghost view = { λ e. record { base = e.base; rows = e.rows.posts } };
 }
 
-impl Entry {
+impl KeptEntry {
     // Its rows and the documents that its base lists, counted together.
     pub(crate) fn size(&self) -> usize
-        ensures { result ≡ entry_size self.now }
+        ensures { result ≡ kept_entry_size self.now }
     {
         self.rows.len() + count_listed(&self.base)
     }

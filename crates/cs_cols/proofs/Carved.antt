@@ -1,7 +1,7 @@
 -- A block of words comes apart into room for four columns, and a `Vec` of words into those rooms and the way back. Assumes `Logic`.
 --
 --   rooms_apart    room for a block's words is room for each column, with a way back
---   carve          an empty `Vec` of a block's words is the rooms, and a `Block` that waits for them
+--   carve          an empty `Vec` of a block's words is the rooms, and a `WaitingBlock` that waits for them
 use Rattle.std.proofs.Common.{◌≡◌, ℕ, ◌+◌, ◌-◌, ◌*◌, ◌<◌, [], ◌∷◌, true, refl, sym, subst, arith, Vec}
 use Rattle.std.proofs.lemmas.Bool.{ne_eqb, not_from_false}
 use seplogic.Ra.Ura.{Ura}
@@ -23,7 +23,7 @@ use Rattle.std.specs.declared.alloc.Global.{Global}
 use Rattle.std.specs.contracts.alloc.Global as G
 use Rattle.std.specs.contracts.impls.GlobalAllocator.TheImpl.{ghosts}
 use Rattle.cs_cols.specs.Block.{number_column, byte_column, block_cells, rooms}
-use Rattle.cs_cols.specs.contracts.block.Block as Block
+use Rattle.cs_cols.specs.contracts.block.WaitingBlock as WaitingBlock
 use Rattle.std_alloc.proofs.vec.Vec.TheLaws as vec_laws
 use Rattle.std.proofs.alloc.Global.TheLaws as heap_laws
 use denote.Param.Laws.{Laws}
@@ -95,9 +95,9 @@ abbrev pub words-laws : Laws Words
 words-laws = vec_laws.the_row_laws u32 G.the_row ghosts number.laws heap_laws.the_row_laws
 
 module _ {M : Type 1} {𝓤 : Ura M} (𝓛 : Logic 𝓤) (v : Vec ℕ Global) (u : Val) (c : ℕ) where
-  -- an empty `Vec` of a block's words is the rooms, and a `Block` that waits for them
+  -- an empty `Vec` of a block's words is the rooms, and a `WaitingBlock` that waits for them
   pub carve : v.len ≡ 0 → v.cap ≡ block_cells c → 0 < c
-      → ent 𝓤 (sem 𝓛 (Words.own_val v (u ∷ []))) (guard 𝓤 (InBlock v.ptr) (sep 𝓤 (sem 𝓛 (rooms v.ptr c)) (sem 𝓛 (Block.the_own (record { ptr = v.ptr; cap = c }) (one u ∷ [])))))
+      → ent 𝓤 (sem 𝓛 (Words.own_val v (u ∷ []))) (guard 𝓤 (InBlock v.ptr) (sep 𝓤 (sem 𝓛 (rooms v.ptr c)) (sem 𝓛 (WaitingBlock.the_own (record { ptr = v.ptr; cap = c }) (one u ∷ [])))))
   carve none full some =
       let live : has_block v.cap ≡ true = not_from_false _ (ne_eqb v.cap 0 (λ e. omega arith)) in
       let t = ghosts.dealloc_token v.alloc in

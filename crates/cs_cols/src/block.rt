@@ -15,11 +15,11 @@ use std::fmt;
 use std::marker::{Move, Owns};
 
 // A block whose memory is out, as the rooms of four columns.
-pub(crate) struct Block {
+pub(crate) struct WaitingBlock {
     vec: Vec<u32, Global>,
 }
 
-impl Owns for Block {
+impl Owns for WaitingBlock {
     ghost Value = { Extent };
 
     ghost coded = { extent_code };
@@ -27,21 +27,21 @@ impl Owns for Block {
     ghost shr_at = { λ _ _ _. ftrue };
 }
 
-impl Move for Block {
+impl Move for WaitingBlock {
     ghost own_val = { λ e vs. fex Inside (λ v. fsep (feq (Ptr × ℕ) (v.vec.ptr, v.vec.cap) (e.ptr, block_cells e.cap)) (fwand (rooms e.ptr e.cap) (Fields.own_val (record { vec = v.vec }) vs))) };
 }
 
-impl fmt::Debug for Block {
+impl fmt::Debug for WaitingBlock {
     fn fmt<W: fmt::Write>(&self, f: &mut fmt::Formatter<W>) -> fmt::Result {
-        f.write_str("Block")
+        f.write_str("WaitingBlock")
     }
 }
 
 // The rooms of the documents, words, positions and scores of `cap` posts, and the block that waits for them.
-pub(crate) fn part(
+pub(crate) fn part_block(
     vec: Vec<u32, Global>,
     cap: usize,
-) -> (NumberRoom, NumberRoom, NumberRoom, ByteRoom, Block)
+) -> (NumberRoom, NumberRoom, NumberRoom, ByteRoom, WaitingBlock)
     requires { (vec_len vec ≡ 0) × (vec_capacity vec ≡ block_cells cap) × (0 < cap) }
     ensures { InBlock (vec_ptr vec) × LieAt (vec_ptr vec) cap result.0 result.1 result.2 result.3
         × (result.4.ptr ≡ vec_ptr vec) × (result.4.cap ≡ cap) }
@@ -51,7 +51,7 @@ pub(crate) fn part(
         NumberRoom {},
         NumberRoom {},
         ByteRoom {},
-        Block { vec },
+        WaitingBlock { vec },
     )
 }
 
@@ -61,7 +61,7 @@ pub(crate) fn whole(
     words: NumberRoom,
     places: NumberRoom,
     scores: ByteRoom,
-    block: Block,
+    block: WaitingBlock,
 ) -> Vec<u32, Global>
     requires { LieAt block.ptr block.cap docs words places scores }
     ensures { (vec_ptr result ≡ block.ptr) × (vec_capacity result ≡ block_cells block.cap) }
@@ -70,6 +70,6 @@ pub(crate) fn whole(
     let NumberRoom {} = words;
     let NumberRoom {} = places;
     let ByteRoom {} = scores;
-    let Block { vec } = block;
+    let WaitingBlock { vec } = block;
     vec
 }

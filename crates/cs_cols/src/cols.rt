@@ -3,7 +3,7 @@ ghost use Rattle.std.specs.Prelude.{◌≡◌, ◌+◌, ◌≤◌, ◌<◌, ◌^
 ghost use Rattle.std_alloc.specs.Vec.{vec_len, vec_capacity};
 ghost use Rattle.cs_cols.specs.Placed.{IsInPlace};
 
-use crate::block::{Block, part, whole};
+use crate::block::{WaitingBlock, part_block, whole};
 use crate::rooms::{house_bytes, house_numbers, vacate_bytes, vacate_numbers};
 use cs_base::{Memory, Post};
 use std::alloc::Global;
@@ -32,7 +32,7 @@ pub struct Cols {
     places: Vec<u32, Lodged>,
     scores: Vec<u8, Lodged>,
     // the memory that the columns lie in, if there is any
-    block: Option<Block>,
+    block: Option<WaitingBlock>,
 }
 
 impl Model for Cols {
@@ -99,7 +99,7 @@ impl Cols {
         let cells = (POST_BYTES * cap).div_ceil(NUMBER_BYTES);
         let mut vec = Vec::with_capacity(alloc, cells)?;
         let ptr = vec.as_mut_ptr();
-        let (docs, words, places, scores, block) = part(vec, cap);
+        let (docs, words, places, scores, block) = part_block(vec, cap);
         let (second, third, fourth) = unsafe {
             (
                 ptr.byte_add(NUMBER_BYTES * cap),

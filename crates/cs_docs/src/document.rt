@@ -73,7 +73,7 @@ fn document_of<'a>(
     ensures accepted { OnOk result (line_refusal (numbered_line doc number line.now) ≡ None) }
     ensures err { IfErr result (λ e. IsCauseOf (line_refusal (numbered_line doc number line.now)) e) }
 {
-    let text = text_of(line, number)?;
+    let text = line_as_text(line, number)?;
     let (title, rest) = cut_at_tab(text);
     let (facets, text) = cut_at_tab(rest);
     check_words(alloc, title, text, number)?;
@@ -90,7 +90,7 @@ fn document_of<'a>(
 }
 
 /// The line as text, if it is one and not too long.
-pub(crate) fn text_of(line: &[u8], number: u32) -> Result<&str, DocFault>
+pub(crate) fn line_as_text(line: &[u8], number: u32) -> Result<&str, DocFault>
     ensures ok { IfOk result (λ s. s.now ≡ line.now) }
     ensures accepted { OnOk result ((is_utf8 line.now ≡ true) × (nat_le (length line.now) MAX_LINE_BYTES ≡ true)) }
     ensures err { IfErr result (λ e. IsCauseOf (first_reason (unless (is_utf8 line.now) (not_utf8 number) ∷ unless (nat_le (length line.now) MAX_LINE_BYTES) (line_too_long number) ∷ [])) e) }

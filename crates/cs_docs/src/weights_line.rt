@@ -8,7 +8,7 @@ ghost use Rattle.cs_docs.specs.FaultRefusals.{IsCauseOf, front_refusal};
 ghost use Rattle.cs_docs.specs.LinesRead.{doc_lines_of, doc_lines_from, weights_lines_of};
 
 use crate::cut::cut_at;
-use crate::document::text_of;
+use crate::document::line_as_text;
 use crate::fault::DocFault;
 use crate::lines::first_line;
 use cs_base::{MAX_ROW_SCORE, MAX_WEIGHT_DIGITS, USUAL_WEIGHTS, Weights};
@@ -16,7 +16,7 @@ use cs_text::{has_digits, number_of};
 
 /// The weights of a collection, and its lines that are documents.
 #[derive(Clone, Copy, Debug)]
-pub(crate) struct Front<'a> {
+pub(crate) struct WeightsFront<'a> {
     /// The weights of its first line, or the usual ones.
     pub(crate) weights: Weights,
     /// How many lines stand before those of documents: 1 where the first one says weights, else 0.
@@ -26,7 +26,7 @@ pub(crate) struct Front<'a> {
 }
 
 /// The weights that the first line of a text says, the usual ones where it names none, and the lines of documents.
-pub(crate) fn front_of(text: &[u8]) -> Result<Front<'_>, DocFault>
+pub(crate) fn front_of(text: &[u8]) -> Result<WeightsFront<'_>, DocFault>
     ensures docs { IfOk result (λ f. doc_lines_of (lines text.now) ≡ doc_lines_from 0 (f.lines + 1) (lines f.rest.now)) }
     ensures weights { IfOk result (λ f. f.weights ≡ weights_of_lines (weights_lines_of (lines text.now))) }
     ensures within { IfOk result (λ f. f.lines + length f.rest.now ≤ length text.now) }
@@ -37,14 +37,14 @@ pub(crate) fn front_of(text: &[u8]) -> Result<Front<'_>, DocFault>
         let (line, rest) = first_line(text);
         if names_weights(line) {
             let weights = weights_of(line)?;
-            return Ok(Front {
+            return Ok(WeightsFront {
                 weights,
                 lines: 1,
                 rest,
             });
         }
     }
-    Ok(Front {
+    Ok(WeightsFront {
         weights: USUAL_WEIGHTS,
         lines: 0,
         rest: text,
@@ -64,7 +64,7 @@ fn weights_of(line: &[u8]) -> Result<Weights, DocFault>
     ensures accepted { OnOk result (weights_refusal (1, line.now) ≡ None) }
     ensures err { IfErr result (λ e. IsCauseOf (weights_refusal (1, line.now)) e) }
 {
-    let text = text_of(line, 1)?;
+    let text = line_as_text(line, 1)?;
     match weights_said(text) {
         Some(weights) => Ok(weights),
         None => Err(DocFault::BadWeights { line: 1 }),

@@ -8,7 +8,7 @@
 --   of_none, of_one, of_two, of_halves, of_popped, none_popped     of so many lists
 --   ListsSoFar          the rows of some lists stand for those of the first chains
 --   lists_begin, lists_go_on, lists_end     before the first chain, behind one more, and behind the last
-use Rattle.std.proofs.Common.{◌≡◌, ℕ, suc, ◌+◌, ◌-◌, ◌<◌, ◌≤◌, ◌||◌, Bool, List, [], ◌∷◌, ◌++◌, length, map, take, drop, get_or, refl, sym, ap, ap₂, subst, ◌∙◌, append-nil}
+use Rattle.std.proofs.Common.{◌≡◌, ℕ, suc, ◌+◌, ◌-◌, ◌<◌, ◌≤◌, ◌||◌, List, [], ◌∷◌, ◌++◌, length, map, take, drop, get_or, refl, sym, ap, ap₂, subst, ◌∙◌, append-nil}
 use Rattle.std.proofs.Common.{arith, length-take}
 use Rattle.std.specs.Prelude.{flat_map}
 use Rattle.std.specs.List.{All, AllByRecursion, Contains, list_any}
@@ -20,7 +20,6 @@ use Rattle.std.proofs.lemmas.List.Elements.{All-append, All-contains, All-filter
 use Rattle.std.proofs.lemmas.List.Elements.{recursion_from_All}
 use Rattle.std.proofs.lemmas.List.Folds.{list_any-append}
 use Rattle.std.proofs.lemmas.List.Sorted.{All-permutation, list_any-IsPermutation}
-use Rattle.cs_base.specs.content.Members.{members_in}
 use Rattle.cs_base.specs.content.Orders.{AreSorted, by_row}
 use Rattle.cs_base.specs.declared.content.doc.Post.{Post}
 use Rattle.cs_base.specs.declared.content.doc.Row.{Row}
@@ -37,7 +36,7 @@ use Rattle.cs_model_index.specs.Numbered.{row_of, rows_at}
 use Rattle.cs_file.specs.Indexes.{IndexView}
 use Rattle.cs_engine.specs.IndexReading.{AreWithin, HasRows, IsWithin}
 use Rattle.cs_engine.specs.Packing.{IsOrdered}
-use Rattle.cs_engine.specs.Stocked.{IsPicked, IsStocked, Stock, corpus_in}
+use Rattle.cs_engine.specs.Stocked.{IsStocked, Stock, corpus_in}
 use Rattle.cs_engine.proofs.FoldsLemmas.{part_rows-is}
 use Rattle.cs_engine.proofs.UnionLemmas.{any_united, picked_words}
 use Rattle.cs_engine.proofs.VocabLemmas.{rows_rise}

@@ -1,6 +1,6 @@
 -- Replies over an index.
 --
---   few_docs, few_words, words_there, index_texts     numbers of posts and words of an index, as tables need them
+--   few_docs, few_words, words_there     numbers of posts and words of an index, as tables need them
 --   first_in          the first words of a table are words of the index
 --   shown_in          the hits that are shown have documents of the index
 --   hits_few          there are no more hits than documents
@@ -9,11 +9,8 @@ use Rattle.std.proofs.Common.{◌≡◌, ℕ, ◌+◌, ◌<◌, ◌≤◌, ◌^�
 use Rattle.std.specs.Prelude.{All}
 use Rattle.std.specs.List.{AllByRecursion}
 use Rattle.std.specs.List.Sorted.{IsStrictlySortedBy}
-use Rattle.std.specs.Str.{IsUtf8, is_utf8}
-use Rattle.std.proofs.lemmas.Bool.{and_parts}
 use Rattle.std.proofs.lemmas.List.{append_assoc, get_or_default, length-map}
 use Rattle.std.proofs.lemmas.List.Elements.{All-weaker, All-take, All-drop, All-map, recursion_from_All}
-use Rattle.std.proofs.lemmas.Str.{IsUtf8-from_is_utf8}
 use Rattle.cs_base.specs.content.Members.{members_in}
 use Rattle.cs_base.specs.content.Orders.{AreDocs, by_rank}
 use Rattle.cs_base.specs.declared.content.doc.Base.{Base}
@@ -21,7 +18,7 @@ use Rattle.cs_base.specs.declared.content.doc.Post.{Post}
 use Rattle.cs_base.specs.declared.content.doc.Scored.{Scored}
 use Rattle.cs_base.proofs.OrdersLemmas.{by_rank_total, by_rank_exact, lt-from_Less}
 use Rattle.cs_docs.proofs.TextLemmas.{All-members}
-use Rattle.cs_file.specs.Indexes.{IndexView, IsIndex, StandsFor, title_in}
+use Rattle.cs_file.specs.Indexes.{StandsFor}
 use Rattle.cs_meet.proofs.Passes.{next_is}
 use Rattle.cs_meet.specs.Filters.{keep_docs}
 use Rattle.cs_model.specs.Answers.{parts_of, table_of}
@@ -32,41 +29,38 @@ use Rattle.cs_model_kept.specs.Entries as kept
 use Rattle.cs_model_kept.proofs.EntryLemmas.{listed_base}
 use Rattle.cs_tables.specs.declared.tables.Completion.{Completion as Numbered}
 use Rattle.cs_tables.specs.TableListings.{post_table}
-use Rattle.cs_engine.specs.IndexReading.{stock_of, AreWithin, IsWithin, HasRows}
+use Rattle.cs_engine.specs.IndexReading.{AreWithin, IsWithin, HasRows}
+use Rattle.cs_engine.specs.Sources.{IsSource, SourceView, seen}
 use Rattle.cs_engine.specs.Steps.{AreFound, IsBaseOf, IsHitOf}
 use Rattle.cs_model_index.specs.Numbered.{rows_at}
-use Rattle.cs_engine.specs.Stocked.{Stock, corpus_in, docs_in, facet_at, base_hits, named_rows, shown_at}
+use Rattle.cs_engine.specs.Stocked.{Stock, corpus_in, base_docs, facet_at, base_hits, named_rows, shown_at, title_at}
 use Rattle.cs_engine.proofs.FoundLemmas.{docs_rise}
-use Rattle.cs_engine.proofs.ReplyLemmas.{facet_kept, first_there, reply_made, table_total, titled, words_shown}
+use Rattle.cs_engine.proofs.ReplyLemmas.{facet_kept, first_there, reply_made, table_total, words_shown}
 use Rattle.cs_engine.proofs.PartSteps.{listed_in, listed_told}
-use Rattle.cs_engine.proofs.StockLemmas.{docs_are, stocked, words_are}
 
-module _ (i : IndexView) (is : IsIndex i) where
-  pub few_docs : (posts : List Post) → AreWithin i posts → All (λ p. p.doc < 2 ^ 20) posts
-  few_docs posts w = All-weaker (IsWithin i.docs (length i.words)) (λ p. p.doc < 2 ^ 20)
+module _ (v : SourceView) (is : IsSource v) where
+  pub few_docs : (posts : List Post) → AreWithin (seen v) posts → All (λ p. p.doc < 2 ^ 20) posts
+  few_docs posts w = All-weaker (IsWithin v.docs (length v.words)) (λ p. p.doc < 2 ^ 20)
       (λ p h. let d = h.doc in let few = is.few_docs in omega (arith, d, few)) posts w.within
 
-  pub few_words : (posts : List Post) → AreWithin i posts → All (λ p. p.word < 2 ^ 22) posts
-  few_words posts w = All-weaker (IsWithin i.docs (length i.words)) (λ p. p.word < 2 ^ 22)
+  pub few_words : (posts : List Post) → AreWithin (seen v) posts → All (λ p. p.word < 2 ^ 22) posts
+  few_words posts w = All-weaker (IsWithin v.docs (length v.words)) (λ p. p.word < 2 ^ 22)
       (λ p h. let d = h.word in let few = is.few_words in omega (arith, d, few)) posts w.within
 
-  pub index_texts : All IsUtf8 i.words
-  index_texts = λ k d l. IsUtf8-from_is_utf8 (get_or i.words k d) (and_parts (is_utf8 (get_or i.words k d)) _ (is.words k d l)).0
+  pub words_there : (posts : List Post) → AreWithin (seen v) posts → AllByRecursion (λ p. p.word < length v.words) posts
+  words_there posts w = recursion_from_All (λ p. p.word < length v.words) posts
+      (All-weaker (IsWithin v.docs (length v.words)) (λ p. p.word < length v.words) (λ p h. h.word) posts w.within)
 
-  pub words_there : (posts : List Post) → AreWithin i posts → AllByRecursion (λ p. p.word < length i.words) posts
-  words_there posts w = recursion_from_All (λ p. p.word < length i.words) posts
-      (All-weaker (IsWithin i.docs (length i.words)) (λ p. p.word < length i.words) (λ p h. h.word) posts w.within)
+  pub first_in : (posts : List Post) → AreWithin (seen v) posts → (cut : ℕ) (first : List Numbered) → first ≡ take cut (post_table posts)
+      → All (λ c. c.word < length v.words) first
+  first_in posts w cut first are = first_there v.words is.ascending posts (words_there posts w) cut first are
 
-  pub first_in : (posts : List Post) → AreWithin i posts → (cut : ℕ) (first : List Numbered) → first ≡ take cut (post_table posts)
-      → All (λ c. c.word < length i.words) first
-  first_in posts w cut first are = first_there i.words is.ascending posts (words_there posts w) cut first are
-
-  pub shown_in : (bound : ℕ) (b : Base) (n : ℕ) (all : List Scored) (o h : ℕ) → n ≡ i.docs → all ≡ base_hits n b → IsBaseOf i.docs bound b
-      → (first : List Scored) → first ≡ take h (drop o (members_in by_rank all)) → All (λ h. h.doc < i.docs) first
+  pub shown_in : (bound : ℕ) (b : Base) (n : ℕ) (all : List Scored) (o h : ℕ) → n ≡ v.docs → all ≡ base_hits n b → IsBaseOf v.docs bound b
+      → (first : List Scored) → first ≡ take h (drop o (members_in by_rank all)) → All (λ h. h.doc < v.docs) first
   shown_in bound b n all o h same are fits first is_first =
-      let P : Scored → Type 0 = λ h. h.doc < i.docs in
+      let P : Scored → Type 0 = λ h. h.doc < v.docs in
       let each : All P all = subst (All P) (sym (are ∙ ap (λ m. base_hits m b) same))
-      (All-weaker (IsHitOf i.docs bound) P (λ x at. at.doc) (base_hits i.docs b) (listed_in i.docs bound b fits).1) in
+      (All-weaker (IsHitOf v.docs bound) P (λ x at. at.doc) (base_hits v.docs b) (listed_in v.docs bound b fits).1) in
       subst (All P) (sym is_first) (All-take P h (drop o (members_in by_rank all))
       (All-drop P o (members_in by_rank all) (All-members by_rank by_rank_total by_rank_exact P all each)))
 
@@ -82,65 +76,63 @@ module _ (i : IndexView) (is : IsIndex i) where
   docs_few n [] up h = omega arith
   docs_few n (d ∷ ds) up h = let few = ascend_few 0 n d ds (omega arith) up (recursion_from_All (λ x. x < n) (d ∷ ds) h) in omega (arith, few)
 
-  pub hits_few : (bound : ℕ) (b : Base) (n : ℕ) (all : List Scored) → n ≡ i.docs → all ≡ base_hits n b → IsBaseOf i.docs bound b → length all ≤ 2 ^ 20
+  pub hits_few : (bound : ℕ) (b : Base) (n : ℕ) (all : List Scored) → n ≡ v.docs → all ≡ base_hits n b → IsBaseOf v.docs bound b → length all ≤ 2 ^ 20
   hits_few bound b n all same are fits =
-      let ls = base_hits i.docs b in
-      let in_all = listed_in i.docs bound b fits in
-      let few = docs_few i.docs (map (λ h. h.doc) ls) (docs_rise ls in_all.0)
-      (All-map (λ d. d < i.docs) (λ h. h.doc) ls (All-weaker (IsHitOf i.docs bound) (λ h. h.doc < i.docs) (λ x at. at.doc) ls in_all.1)) in
+      let ls = base_hits v.docs b in
+      let in_all = listed_in v.docs bound b fits in
+      let few = docs_few v.docs (map (λ h. h.doc) ls) (docs_rise ls in_all.0)
+      (All-map (λ d. d < v.docs) (λ h. h.doc) ls (All-weaker (IsHitOf v.docs bound) (λ h. h.doc < v.docs) (λ x at. at.doc) ls in_all.1)) in
       let most = is.few_docs in
       omega (arith, few, most, length-map ls (λ (h : Scored). h.doc), ap length (are ∙ ap (λ m. base_hits m b) same))
 
-module _ (b : List ℕ) (i : IndexView) (stands : StandsFor b i) (is : IsIndex i) where
+module _ (b : List ℕ) (v : SourceView) (stands : StandsFor b v.index) (is : IsSource v) where
   abbrev s : Stock
-  s = stock_of b
+  s = v.stock b
 
-  own_words : (posts : List Post) → AreWithin i posts → AllByRecursion (λ p. p.word < length s.words) posts
-  own_words posts w = subst (λ ws. AllByRecursion (λ (p : Post). p.word < length ws) posts) (words_are b i stands is) (words_there i is posts w)
+  own_words : (posts : List Post) → AreWithin (seen v) posts → AllByRecursion (λ p. p.word < length s.words) posts
+  own_words posts w = subst (λ ws. AllByRecursion (λ (p : Post). p.word < length ws) posts) (is.told b stands).words (words_there v is posts w)
 
-  pub words_as_shown : (posts : List Post) → AreWithin i posts → (ws : List (List ℕ)) → ws ≡ i.words → (cut : ℕ) (first : List Numbered)
+  pub words_as_shown : (posts : List Post) → AreWithin (seen v) posts → (ws : List (List ℕ)) → ws ≡ v.words → (cut : ℕ) (first : List Numbered)
       → first ≡ take cut (post_table posts) → (shown : List Shown) → shown ≡ map (shown_at ws) first
       → shown ≡ map shown_of (take cut (table_of (rows_at s.words posts)))
   words_as_shown posts w ws same cut first are shown shown_is =
-      shown_is ∙ ap (λ x. map (shown_at x) first) (same ∙ words_are b i stands is)
-      ∙ words_shown s (stocked b i stands is) posts cut first (own_words posts w) are
+      shown_is ∙ ap (λ x. map (shown_at x) first) (same ∙ (is.told b stands).words)
+      ∙ words_shown s (is.told b stands).stocked posts cut first (own_words posts w) are
 
-  pub total_told : (posts : List Post) → AreWithin i posts → length (post_table posts) ≡ length (table_of (rows_at s.words posts))
-  total_told posts w = table_total s (stocked b i stands is) posts (own_words posts w)
+  pub total_told : (posts : List Post) → AreWithin (seen v) posts → length (post_table posts) ≡ length (table_of (rows_at s.words posts))
+  total_told posts w = table_total s (is.told b stands).stocked posts (own_words posts w)
 
   pub facet_told : (base : Base) (cut : ℕ) (name copied : List ℕ) (rows posts : List Post) (n : ℕ) (words : List Shown) → copied ≡ name
-      → HasRows s (named_rows s name) rows → n ≡ i.docs → posts ≡ keep_docs rows (docs_in n base)
+      → HasRows s (named_rows s name) rows → n ≡ v.docs → posts ≡ keep_docs rows (base_docs n base)
       → words ≡ map shown_of (take cut (table_of (rows_at s.words posts)))
       → ◌≡◌ {A = FacetShown} (record { name = copied; table = words }) (facet_at s base cut name)
   facet_told base cut name copied rows posts n words same has docs are words_is =
-      let of_rows = facet_kept s (stocked b i stands is) base name rows posts has.is
-      (are ∙ ap (λ m. keep_docs rows (docs_in m base)) (docs ∙ docs_are b i stands is)) in
+      let of_rows = facet_kept s (is.told b stands).stocked base name rows posts has.is
+      (are ∙ ap (λ m. keep_docs rows (base_docs m base)) (docs ∙ (is.told b stands).docs)) in
       ap (λ m. let f : FacetShown = record { name = m; table = words } in f) same
       ∙ ap (λ (t : List Shown). let f : FacetShown = record { name = name; table = t } in f)
       (words_is ∙ ap (λ rs. map shown_of (take cut (table_of rs))) of_rows)
 
-  pub title_told : (h : Scored) (title : List ℕ) → h.doc < i.docs → title ≡ title_in b h.doc
+  pub title_told : (h : Scored) (title : List ℕ) → title ≡ title_at s.titles h.doc
       → ◌≡◌ {A = HitShown} (record { doc = h.doc; score = h.score; title = title }) (hit_shown (corpus_in s) h)
-  title_told h title l is_title =
-      ap (λ t. let x : HitShown = record { doc = h.doc; score = h.score; title = t } in x)
-      (is_title ∙ sym (titled s.titles h.doc [] (subst (λ n. h.doc < n) (docs_are b i stands is) l)))
+  title_told h title is_title = ap (λ t. let x : HitShown = record { doc = h.doc; score = h.score; title = t } in x) is_title
 
-  pub reply_told : (r : Request) (hits : Base) (posts : List Post) → AreFound s r.query hits posts → AreWithin i posts
+  pub reply_told : (r : Request) (hits : Base) (posts : List Post) → AreFound s r.query hits posts → AreWithin (seen v) posts
       → (c : List Shown) (f : List FacetShown) (h : List HitShown) (tc th : ℕ) (all : List Scored)
       → c ≡ map shown_of (take r.completions (table_of (rows_at s.words posts)))
       → f ≡ map (facet_at s hits r.completions) r.facets
       → h ≡ map (hit_shown (corpus_in s)) (take r.hits (drop r.offset (members_in by_rank all)))
       → tc ≡ length (post_table posts)
       → th ≡ length all
-      → (n : ℕ) → n ≡ i.docs → all ≡ base_hits n hits
+      → (n : ℕ) → n ≡ v.docs → all ≡ base_hits n hits
       → ◌≡◌ {A = Reply} (record { completions = c; facets = f; hits = h; total_completions = tc; total_hits = th }) (reply_of (corpus_in s) r)
   reply_told r hits posts found w c f h tc th all c_is f_is h_is tc_is th_is n docs are =
       let k = corpus_in s in
       let ps = parts_of k r.query in
-      let here : all ≡ base_hits (length s.titles) hits = are ∙ ap (λ m. base_hits m hits) (docs ∙ docs_are b i stands is) in
+      let here : all ≡ base_hits (length s.titles) hits = are ∙ ap (λ m. base_hits m hits) (docs ∙ (is.told b stands).docs) in
       let lists : base_hits (length s.titles) hits ≡ scored_hits k ps = listed_told s (length s.titles) hits refl ∙ ap (kept.listed k) found.base
       ∙ listed_base k ps in
-      reply_made s (stocked b i stands is) ps hits posts lists found.rows r refl c f h tc th
+      reply_made s (is.told b stands).stocked ps hits posts lists found.rows r refl c f h tc th
       c_is f_is (h_is ∙ ap (λ hs. map (hit_shown k) (take r.hits (drop r.offset (members_in by_rank hs)))) here)
       (tc_is ∙ total_told posts w) (th_is ∙ ap length here)
 

@@ -1,7 +1,6 @@
 -- The words that an atom asks for, and the blocks that hold them.
 --
 --   word_span, no_span      a word that is there, and one that isn't
---   span_found              the posts between two numbers stand for the rows that pass the test
 --   prefix_met, word_met    how many blocks hold such words
 use Rattle.std.proofs.Common.{◌≡◌, ℕ, suc, ◌+◌, ◌-◌, ◌<◌, ◌≤◌, ◌&&◌, max, Bool, true, false, cond, List, [], ◌∷◌, length, get_or, drop, refl, sym, ap}
 use Rattle.std.proofs.Common.{subst, ◌∙◌, arith, length-take, length-drop, get_or-drop, get_or-take, if◌then◌else◌}
@@ -11,20 +10,17 @@ use Rattle.std.specs.Str.{bytes_eq}
 use Rattle.std.proofs.lemmas.Bool.Decides.{nat_tests}
 use Rattle.std.proofs.lemmas.List.Elements.{recursion_from_All}
 use Rattle.std.proofs.lemmas.List.Folds.{list_any_at}
-use Rattle.cs_base.specs.declared.content.doc.Post.{Post}
 use Rattle.cs_base.specs.declared.index.block.BlockHead.{BlockHead}
 use Rattle.cs_base.proofs.NameMaps.{name_itself}
-use Rattle.cs_file.specs.Indexes.{IndexView, IsIndex, StandsFor, is_met}
+use Rattle.cs_file.specs.Indexes.{IndexView, IsIndex, is_met}
 use Rattle.cs_file.proofs.HeadsLemmas.{head_filled, head_within, heads_rise}
 use Rattle.cs_model.specs.Answers.{begins}
 use Rattle.cs_model_kept.specs.Due.{block_words, met_prefix, met_word}
 use Rattle.cs_vocab.specs.Ranges.{IsWordAt, IsRange}
 use Rattle.cs_engine.specs.Asking.{division}
-use Rattle.cs_engine.specs.IndexReading.{stock_of, HasRows, IsSpanOf}
-use Rattle.cs_model_index.specs.Numbered.{word_at, rows_at}
-use Rattle.cs_engine.specs.Stocked.{corpus_in, is_between, HoldsBetween}
-use Rattle.cs_engine.proofs.AtomsLemmas.{span_word, span_none, span_rows, picked_between, words_known}
-use Rattle.cs_engine.proofs.StockLemmas.{stocked, words_are}
+use Rattle.cs_engine.specs.IndexReading.{IsSpanOf}
+use Rattle.cs_model_index.specs.Numbered.{word_at}
+use Rattle.cs_engine.proofs.AtomsLemmas.{span_word, span_none}
 
 -- ---- spans
 pub word_span : (i : IndexView) → IsIndex i → (n : ℕ) (w : List ℕ) → IsWordAt i.words n w → IsSpanOf i.words (λ v. bytes_eq v w) n (n + 1)
@@ -35,18 +31,6 @@ no_span ws w none = record { ordered = omega arith; within = omega arith; holds 
 
 pub word_there : (ws : List (List ℕ)) (n : ℕ) (w : List ℕ) → IsWordAt ws n w → list_any (bytes_eq w) ws ≡ true
 word_there ws n w at = list_any_at (bytes_eq w) ws n [] at.0 (ap (bytes_eq w) at.1 ∙ name_itself w)
-
-pub span_found : (b : List ℕ) (i : IndexView) → StandsFor b i → IsIndex i → (test : List ℕ → Bool) (lo hi : ℕ) → HoldsBetween i.words test lo hi → (posts : List Post)
-    → posts ≡ filter (is_between lo hi) (stock_of b).posts
-    → HasRows (stock_of b) (filter (λ r. test r.word) (corpus_in (stock_of b)).rows) posts
-span_found b i s is test lo hi span posts are =
-    let st = stocked b i s is in
-    let own = subst (λ ws. HoldsBetween ws test lo hi) (words_are b i s is) span in
-    record {
-      is = ap (λ ps. rows_at (stock_of b).words ps) are
-          ∙ span_rows (stock_of b).words test lo hi (stock_of b).posts own (words_known (stock_of b) (stock_of b).posts st.known);
-      picked = picked_between (stock_of b) (is_between lo hi) posts st are;
-    }
 
 -- ---- blocks
 filter_less : {X : Type 0} (p q : X → Bool) (xs : List X) → All (λ x. p x ≡ true → q x ≡ true) xs → length (filter p xs) ≤ length (filter q xs)

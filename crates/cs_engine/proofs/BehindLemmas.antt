@@ -21,27 +21,26 @@ use Rattle.cs_base.specs.declared.content.doc.Scored.{Scored}
 use Rattle.cs_base.specs.declared.content.limits.TheConstants.{MAX_PARTS}
 use Rattle.cs_base.specs.declared.content.query.Part.{Part, out-Part}
 use Rattle.cs_base.specs.declared.content.scores.TheConstants.{MAX_ROW_SCORE}
-use Rattle.cs_file.specs.Indexes.{IndexView, IsIndex, StandsFor, AreMet, block_posts}
-use Rattle.cs_file.proofs.StoodLemmas.{stood_count}
+use Rattle.cs_file.specs.Indexes.{StandsFor, AreMet}
 use Rattle.cs_model.specs.Answers.{rows_of_part}
-use Rattle.cs_model_index.specs.Sections.{image_of}
 use Rattle.cs_model_kept.specs.Due.{met_of_part}
-use Rattle.cs_rank.specs.DocScores.{scores, with_base}
+use Rattle.cs_rank.specs.DocScores.{doc_scores, with_base}
 use Rattle.cs_rank.proofs.GroupsLemmas.{base_each}
 use Rattle.cs_tables.specs.WordCounts.{is_chosen}
 use Rattle.cs_engine.specs.Asking.{division}
 use Rattle.cs_engine.specs.Counting.{AreListed, in_listed}
 use Rattle.cs_engine.specs.Loose.{HasBestScores, hits_in}
 use Rattle.cs_engine.specs.Plain.{AreWordsOf}
-use Rattle.cs_engine.specs.IndexReading.{AreWithin, IsWithin, run_of, stock_of}
+use Rattle.cs_engine.specs.IndexReading.{AreWithin, IsWithin, run_of}
+use Rattle.cs_engine.specs.Sources.{IsSource, SourceView, seen}
 use Rattle.cs_engine.specs.Steps.{IsBaseOf, IsHitOf, most, posts_after}
 use Rattle.cs_engine.specs.Stocked.{corpus_in, is_between}
 use Rattle.cs_engine.proofs.BestLemmas.{alike_best, hits_are}
-use Rattle.cs_engine.proofs.CountingLemmas.{counted_alike, flat_more, kept_listed, stock_within}
+use Rattle.cs_engine.proofs.CountingLemmas.{flat_more, kept_listed}
 use Rattle.cs_engine.proofs.FoundLemmas.{is_excluded}
 use Rattle.cs_engine.proofs.PartSteps.{AreHitsBehind, base_small, step_told}
 use Rattle.cs_engine.proofs.RowsInRange.{kept_within}
-use Rattle.cs_engine.proofs.StockLemmas.{docs_are}
+use Rattle.cs_engine.proofs.OverSources.{chosen_alike, source_within}
 
 -- ---- scores over a base
 pub none_added : (found : List Scored) → map (with_base base.All) found ≡ found
@@ -76,60 +75,61 @@ most_more true = omega arith
 most_more false = omega arith
 
 -- ---- the table
-module _ (b : List ℕ) (i : IndexView) (stands : StandsFor b i) (is : IsIndex i) (lo hi : ℕ) (listed : List Bool) where
+module _ (b : List ℕ) (v : SourceView) (stands : StandsFor b v.index) (is : IsSource v) (lo hi : ℕ) (listed : List Bool) where
   abbrev asked : List Post
-  asked = filter (is_between lo hi) (stock_of b).posts
+  asked = filter (is_between lo hi) (v.stock b).posts
 
   abbrev rows : List Post
   rows = filter (in_listed listed) asked
 
   abbrev run : ℕ → ℕ → List Post
-  run first k = run_of (image_of b).blocks first k (is_chosen lo hi listed)
+  run first k = run_of (v.blocks b) first k (is_chosen lo hi listed)
 
-  pub best_more : (first k : ℕ) (old new : List ℕ) → first ≤ k → k < length i.heads
-      → ((seen : List Post) → HasBestScores seen old → HasBestScores (seen ++ filter (is_chosen lo hi listed) (block_posts b k)) new)
-      → HasBestScores (run_of (image_of b).blocks first k (is_chosen lo hi listed)) old
-      → HasBestScores (run_of (image_of b).blocks first (k + 1) (is_chosen lo hi listed)) new
+  pub best_more : (first k : ℕ) (old new : List ℕ) → first ≤ k → k < length v.index.heads
+      → ((seen : List Post) → HasBestScores seen old → HasBestScores (seen ++ filter (is_chosen lo hi listed) (get_or (v.blocks b) k [])) new)
+      → HasBestScores (run_of (v.blocks b) first k (is_chosen lo hi listed)) old
+      → HasBestScores (run_of (v.blocks b) first (k + 1) (is_chosen lo hi listed)) new
   best_more first k old new le lt step h =
-      let count = stood_count b i stands in
-      subst (λ rs. HasBestScores rs new) (sym (flat_more (filter (is_chosen lo hi listed)) (image_of b).blocks first k le (omega (arith, lt, count))))
+      let count = (is.told b stands).count in
+      subst (λ rs. HasBestScores rs new) (sym (flat_more (filter (is_chosen lo hi listed)) (v.blocks b) first k le (omega (arith, lt, count))))
       (step (run first k) h)
 
-  pub best_found : (first last : ℕ) (best : List ℕ) → AreMet i.heads lo hi first last
-      → HasBestScores (run_of (image_of b).blocks first last (is_chosen lo hi listed)) best
-      → HasBestScores (filter (in_listed listed) (filter (is_between lo hi) (stock_of b).posts)) best
-  best_found first last best met has = alike_best (run first last) rows best (counted_alike b i stands is first last lo hi listed met) has
+  pub best_found : (first last : ℕ) (best : List ℕ) → AreMet v.index.heads (v.before lo) (v.before hi) first last
+      → HasBestScores (run_of (v.blocks b) first last (is_chosen lo hi listed) ++ filter (is_chosen lo hi listed) v.held) best
+      → HasBestScores (filter (in_listed listed) (filter (is_between lo hi) (v.stock b).posts)) best
+  best_found first last best met has =
+      alike_best (run first last ++ filter (is_chosen lo hi listed) v.held) rows best (chosen_alike b v stands is first last lo hi listed met) has
 
-  module _ (hits : Base) (lists : AreListed i.docs hits listed) where
-    asked_within : AreWithin i asked
-    asked_within = kept_within i (is_between lo hi) (stock_of b).posts (stock_within b i stands is)
+  module _ (hits : Base) (lists : AreListed v.docs hits listed) where
+    asked_within : AreWithin (seen v) asked
+    asked_within = kept_within (seen v) (is_between lo hi) (v.stock b).posts (source_within b v stands is)
 
     pub rows_are : filter (in_listed listed)
-        (filter (is_between lo hi) (stock_of b).posts) ≡ (posts_after i.docs hits false (filter (is_between lo hi) (stock_of b).posts)).rows
-    rows_are = kept_listed i hits listed asked lists asked_within
+        (filter (is_between lo hi) (v.stock b).posts) ≡ (posts_after v.docs hits false (filter (is_between lo hi) (v.stock b).posts)).rows
+    rows_are = kept_listed (seen v) hits listed asked lists asked_within
 
-    pub scored_are : (best : List ℕ) (next : List Scored) → length best ≡ i.docs
-        → HasBestScores (filter (in_listed listed) (filter (is_between lo hi) (stock_of b).posts)) best
+    pub scored_are : (best : List ℕ) (next : List Scored) → length best ≡ v.docs
+        → HasBestScores (filter (in_listed listed) (filter (is_between lo hi) (v.stock b).posts)) best
         → next ≡ map (with_base hits) (hits_in 0 best)
-        → next ≡ scores hits (posts_after i.docs hits false (filter (is_between lo hi) (stock_of b).posts)).rows
+        → next ≡ doc_scores hits (posts_after v.docs hits false (filter (is_between lo hi) (v.stock b).posts)).rows
     scored_are best next long has next_is =
-        let w = kept_within i (in_listed listed) asked asked_within in
-        let known : All (λ p. p.doc < length best) rows = All-weaker (IsWithin i.docs (length i.words)) (λ p. p.doc < length best)
+        let w = kept_within (seen v) (in_listed listed) asked asked_within in
+        let known : All (λ p. p.doc < length best) rows = All-weaker (IsWithin v.docs (length v.words)) (λ p. p.doc < length best)
         (λ p h. let doc = h.doc in omega (arith, doc, long)) rows w.within in
-        let scored : All (λ p. 1 ≤ p.score) rows = All-weaker (IsWithin i.docs (length i.words)) (λ p. 1 ≤ p.score) (λ p h. h.score_from) rows w.within in
-        next_is ∙ ap (map (with_base hits)) (hits_are rows best has known scored) ∙ base_each hits rows (docs_of rows) ∙ ap (scores hits) rows_are
+        let scored : All (λ p. 1 ≤ p.score) rows = All-weaker (IsWithin v.docs (length v.words)) (λ p. 1 ≤ p.score) (λ p h. h.score_from) rows w.within in
+        next_is ∙ ap (map (with_base hits)) (hits_are rows best has known scored) ∙ base_each hits rows (docs_of rows) ∙ ap (doc_scores hits) rows_are
 
 -- ---- the hits behind the part
-pub behind_words : (b : List ℕ) (i : IndexView) → StandsFor b i → IsIndex i → (x : Part) (hits : Base) (lo hi : ℕ) (next : List Scored)
-    → (out-Part x).excluded ≡ false → AreWordsOf i (met_of_part (division i) x) (λ k. (rows_of_part k x).rows) lo hi
-    → next ≡ scores hits (posts_after i.docs hits false (filter (is_between lo hi) (stock_of b).posts)).rows
-    → AreHitsBehind (stock_of b) hits (rows_of_part (corpus_in (stock_of b)) x) (base.Listed next)
-behind_words b i stands is x hits lo hi next positive asks next_is =
-    let s = stock_of b in
+pub behind_words : (b : List ℕ) (v : SourceView) → StandsFor b v.index → IsSource v → (x : Part) (hits : Base) (lo hi : ℕ) (next : List Scored)
+    → (out-Part x).excluded ≡ false → AreWordsOf v (met_of_part (division v.index) x) (λ k. (rows_of_part k x).rows) lo hi
+    → next ≡ doc_scores hits (posts_after v.docs hits false (filter (is_between lo hi) (v.stock b).posts)).rows
+    → AreHitsBehind (v.stock b) hits (rows_of_part (corpus_in (v.stock b)) x) (base.Listed next)
+behind_words b v stands is x hits lo hi next positive asks next_is =
+    let s = v.stock b in
     let posts = filter (is_between lo hi) s.posts in
     let excluded = is_excluded s x ∙ positive in
     record {
-      e = posts_after i.docs hits false posts;
-      step = step_told s i.docs hits (rows_of_part (corpus_in s) x) posts (docs_are b i stands is) (asks.posts b stands).is false excluded;
-      are = ap base.Listed next_is ∙ ap (λ x. if not x then base.Listed (scores hits (posts_after i.docs hits false posts).rows) else hits) (sym excluded);
+      e = posts_after v.docs hits false posts;
+      step = step_told s v.docs hits (rows_of_part (corpus_in s) x) posts (is.told b stands).docs (asks.posts b stands).is false excluded;
+      are = ap base.Listed next_is ∙ ap (λ x. if not x then base.Listed (doc_scores hits (posts_after v.docs hits false posts).rows) else hits) (sym excluded);
     }

@@ -2,7 +2,7 @@
 --
 --   counted_held         what holds of all where they are held
 --   counted_fits         they are in the range of an index
-use Rattle.std.proofs.Common.{◌≡◌, ℕ, ◌*◌, ◌≤◌, List, length, Option, Some, None, sym, subst}
+use Rattle.std.proofs.Common.{◌≡◌, ◌*◌, ◌≤◌, List, length, Option, Some, None, sym, subst}
 use Rattle.std.specs.Prelude.{All, IfSome, MatchOption}
 use Rattle.cs_base.specs.declared.content.doc.Base.{Base}
 use Rattle.cs_base.specs.declared.content.limits.TheConstants.{MAX_PARTS}

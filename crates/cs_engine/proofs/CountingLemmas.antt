@@ -2,12 +2,10 @@
 --
 --   everywhere           All lists each document
 --   flat_more            one block more
---   block_counted        one block more is counted
+--   whole_apart          no post of the blocks stands twice
 --   countable            the rows that are counted are countable
 --   counted_alike, counted_long     they have the members of those asked for, and are as many
---   table_told           their table
 --   kept_listed, all_listed     the rows in listed documents
---   facet_counted        the table of a facet
 use Rattle.std.proofs.Common.{◌≡◌, ◌≢◌, ℕ, zero, suc, ◌+◌, ◌-◌, ◌<◌, ◌≤◌, ◌==◌, ◌&&◌, ◌||◌, Bool, true, false, cond, List, [], ◌∷◌, ◌++◌, length, get_or}
 use Rattle.std.proofs.Common.{take, drop, map, replicate, refl, sym, ap, ap₂, subst, ◌∙◌, arith, append-nil, length-take, length-drop, get_or-drop}
 use Rattle.std.proofs.Common.{get_or-take}
@@ -17,7 +15,7 @@ use Rattle.std.specs.List.Sorted.{IsStrictlySortedBy}
 use Rattle.std.proofs.lemmas.Bool.{eq-eqb, ltb-true, ltb-false}
 use Rattle.std.proofs.lemmas.Bool.Decides.{nat_tests}
 use Rattle.std.proofs.lemmas.Grind.{flat_map-append}
-use Rattle.std.proofs.lemmas.List.{take_more, get_or-replicate, length-replicate}
+use Rattle.std.proofs.lemmas.List.{take_all, take_more, get_or-replicate, length-replicate}
 use Rattle.std.proofs.lemmas.List.Elements.{All-nil, All-head, All-tail, All-append, All-filter, All-weaker, filter-append, recursion_from_All}
 use Rattle.std.proofs.lemmas.List.Folds.{list_any-append}
 use Rattle.std.proofs.lemmas.List.Kept.{IsStrictlySortedBy-filter}
@@ -35,25 +33,19 @@ use Rattle.cs_file.proofs.HeadsLemmas.{heads_rise}
 use Rattle.cs_file.proofs.PostsLemmas.{block_words, posts_between}
 use Rattle.cs_file.proofs.StoodLemmas.{stood_block, stood_count}
 use Rattle.cs_meet.specs.Filters.{keep_docs}
-use Rattle.cs_model.specs.Answers.{begins, is_listed}
-use Rattle.cs_model.specs.Collection.{named}
-use Rattle.cs_model.specs.Replies.{Shown, FacetShown}
+use Rattle.cs_model.specs.Answers.{is_listed}
 use Rattle.cs_model_index.specs.Images.{image_posts}
 use Rattle.cs_model_index.specs.Sections.{image_of}
-use Rattle.cs_tables.specs.declared.tables.Completion.{Completion as Numbered}
-use Rattle.cs_tables.specs.TableListings.{with_word, post_table}
-use Rattle.cs_tables.specs.WordCounts.{AreCountable, HasCounted, WordCountsView, chosen, is_chosen}
+use Rattle.cs_tables.specs.TableListings.{with_word}
+use Rattle.cs_tables.specs.WordCounts.{AreCountable, is_chosen}
 use Rattle.cs_engine.specs.Counting.{AreListed, counted_rows, in_listed}
 use Rattle.cs_engine.specs.IndexReading.{AreWithin, IsWithin, by_post, stock_of}
-use Rattle.cs_engine.specs.Stocked.{docs_in, every, facet_at, is_between, shown_at, IsKnown}
-use Rattle.cs_engine.proofs.AnsweringLemmas.{facet_told, words_as_shown}
-use Rattle.cs_engine.proofs.AlikeLemmas.{any_filter, table_alike}
+use Rattle.cs_engine.specs.Stocked.{base_docs, every, is_between, IsKnown}
+use Rattle.cs_engine.proofs.AlikeLemmas.{any_filter}
 use Rattle.cs_engine.proofs.DistinctLemmas.{Apart, apart_append, apart_none, apart_sorted, long_alike}
 use Rattle.cs_engine.proofs.FoundLemmas.{all_kept, every_more}
 use Rattle.cs_engine.proofs.RowsInRange.{kept_within}
 use Rattle.cs_engine.proofs.StockLemmas.{by_post_total, by_post_exact, docs_are, stocked, within_block, words_are}
-use Rattle.cs_engine.proofs.AskedWords.{span_found}
-use Rattle.cs_vocab.specs.Ranges.{IsRange}
 
 -- ---- which documents are listed
 abbrev doc_of : Scored → ℕ
@@ -181,12 +173,16 @@ blocks_apart t (b ∷ bs) from to p =
     (blocks_apart t bs (λ k. from (suc k)) (λ k. to (suc k)) (parted_rest b bs from to p))
     (recursion_from_All (λ p. p.word < to 0) here low) (recursion_from_All (λ p. to 0 ≤ p.word) rest high)
 
+flat_filter : (t : Post → Bool) (bs : List (List Post)) → flat_map (filter t) bs ≡ filter t (flat_map (λ block. block) bs)
+flat_filter t [] = refl
+flat_filter t (b ∷ bs) = ap (λ x. filter t b ++ x) (flat_filter t bs) ∙ sym (filter-append t b (flat_map (λ block. block) bs))
+
 -- posts in listed documents
 pub kept_listed : (i : IndexView) (base : Base) (listed : List Bool) (posts : List Post) → AreListed i.docs base listed → AreWithin i posts
-    → filter (in_listed listed) posts ≡ keep_docs posts (docs_in i.docs base)
+    → filter (in_listed listed) posts ≡ keep_docs posts (base_docs i.docs base)
 kept_listed i base listed posts has w =
-    filter_alike (in_listed listed) (λ p. is_listed (docs_in i.docs base) p.doc) posts
-    (all_then (IsWithin i.docs (length i.words)) (λ p. in_listed listed p ≡ is_listed (docs_in i.docs base) p.doc) (λ p h. has.each p.doc h.doc) posts
+    filter_alike (in_listed listed) (λ p. is_listed (base_docs i.docs base) p.doc) posts
+    (all_then (IsWithin i.docs (length i.words)) (λ p. in_listed listed p ≡ is_listed (base_docs i.docs base) p.doc) (λ p h. has.each p.doc h.doc) posts
     (recursion_from_All (IsWithin i.docs (length i.words)) posts w.within))
 
 module _ (b : List ℕ) (i : IndexView) (stands : StandsFor b i) (is : IsIndex i) where
@@ -222,6 +218,15 @@ module _ (b : List ℕ) (i : IndexView) (stands : StandsFor b i) (is : IsIndex i
         heads_rise i is (first + j) (first + k) none (omega (arith, up)) (omega (arith, at.1, within));
   }
 
+  -- no post of the blocks stands twice
+  pub whole_apart : (t : Post → Bool) → Apart (filter t (image_posts (image_of b)))
+  whole_apart t =
+      let n = length i.heads in
+      let count = stood_count b i stands in
+      let whole : take (n - 0) (drop 0 blocks) ≡ blocks = take_all (n - 0) blocks (omega (arith, count)) in
+      subst Apart (ap (flat_map (filter t)) whole ∙ flat_filter t blocks)
+      (blocks_apart t (take (n - 0) (drop 0 blocks)) _ _ (parted 0 n (omega arith) (omega arith)))
+
   pub countable : (first last lo hi : ℕ) (listed : List Bool) → first ≤ last → last ≤ length i.heads
       → AreCountable (counted_rows blocks first last lo hi listed)
   countable first last lo hi listed le within = record {
@@ -233,21 +238,6 @@ module _ (b : List ℕ) (i : IndexView) (stands : StandsFor b i) (is : IsIndex i
         (All-weaker (IsWithin i.docs (length i.words)) (λ p. p.doc < MAX_DOCS) (λ x h. let d = h.doc in omega (arith, d, few)) (block_posts b (first + k))
         (within_block b i stands is (first + k) (omega (arith, at.1, within))).within));
   }
-
-  -- one block more is counted
-  pub block_counted : (first k lo hi : ℕ) (listed : List Bool) (old new : WordCountsView) → first ≤ k → k < length i.heads → old.low ≡ lo → old.high ≡ hi
-      → ((seen : List Post) → AreCountable (seen ++ chosen old.low old.high listed (block_posts b k)) → HasCounted seen old
-      → HasCounted (seen ++ chosen old.low old.high listed (block_posts b k)) new)
-      → HasCounted (counted_rows blocks first k lo hi listed) old → HasCounted (counted_rows blocks first (k + 1) lo hi listed) new
-  block_counted first k lo hi listed old new le lt low high step h =
-      let count = stood_count b i stands in
-      let more = flat_more (chosen lo hi listed) blocks first k le (omega (arith, lt, count)) in
-      let all = countable first (k + 1) lo hi listed (omega (arith, le)) (omega (arith, lt)) in
-      let seen = counted_rows blocks first k lo hi listed in
-      let Steps : ℕ → ℕ → Type 0 = λ l u. AreCountable (seen ++ chosen l u listed (block_posts b k))
-      → HasCounted (seen ++ chosen l u listed (block_posts b k)) new in
-      let own : Steps lo hi = subst (Steps lo) high (subst (λ l. Steps l old.high) low (λ few. step seen few h)) in
-      subst (λ rows. HasCounted rows new) (sym more) (own (subst AreCountable more all))
 
   flat_twice : (p q : Post → Bool) (bs : List (List Post)) → flat_map (filter (λ x. p x && q x)) bs ≡ filter q (flat_map (filter p) bs)
   flat_twice p q [] = refl
@@ -277,11 +267,6 @@ module _ (b : List ℕ) (i : IndexView) (stands : StandsFor b i) (is : IsIndex i
       (IsStrictlySortedBy-filter by_place (is_between lo hi) (stock_of b).posts up))
       (counted_alike first last lo hi listed met)
 
-  pub table_told : (first last lo hi : ℕ) (listed : List Bool) → AreMet i.heads lo hi first last
-      → post_table (counted_rows blocks first last lo hi listed) ≡ post_table (filter (in_listed listed) (filter (is_between lo hi) (stock_of b).posts))
-  table_told first last lo hi listed met = table_alike (counted_rows blocks first last lo hi listed)
-      (filter (in_listed listed) (filter (is_between lo hi) (stock_of b).posts)) (counted_alike first last lo hi listed met)
-
   -- the posts that are read of an index file are in its range
   pub stock_within : AreWithin i (stock_of b).posts
   stock_within =
@@ -306,25 +291,6 @@ module _ (b : List ℕ) (i : IndexView) (stands : StandsFor b i) (is : IsIndex i
       let w = kept_within i (is_between lo hi) (stock_of b).posts stock_within in
       kept_listed i base.All all asked has w ∙ sym (all_kept i.docs asked
       (All-weaker (IsWithin i.docs (length i.words)) (λ p. p.doc < i.docs) (λ p h. h.doc) asked w.within))
-
-  -- the posts that a facet counts
-  abbrev facet_posts : ℕ → ℕ → List Bool → List Post
-  facet_posts lo hi listed = filter (in_listed listed) (filter (is_between lo hi) (stock_of b).posts)
-
-  -- what is shown of them is the facet's table
-  pub facet_counted : (base : Base) (cut : ℕ) (name copied prefix : List ℕ) (lo hi : ℕ) (listed : List Bool) (ws : List (List ℕ)) (first : List Numbered)
-      (shown : List Shown) → copied ≡ name → prefix ≡ named name [] → IsRange i.words prefix lo hi → AreListed i.docs base listed
-      → ws ≡ i.words → first ≡ take cut (post_table (facet_posts lo hi listed)) → shown ≡ map (shown_at ws) first
-      → ◌≡◌ {A = FacetShown} (record { name = copied; table = shown }) (facet_at (stock_of b) base cut name)
-  facet_counted base cut name copied prefix lo hi listed ws first shown same prefix_is range has words first_is shown_is =
-      let asked = filter (is_between lo hi) (stock_of b).posts in
-      let within = kept_within i (is_between lo hi) (stock_of b).posts stock_within in
-      let own = subst (λ p. IsRange i.words p lo hi) prefix_is range in
-      let rows = span_found b i stands is (begins (named name [])) lo hi own.holds asked refl in
-      let kept = kept_listed i base listed asked has within in
-      let table_is = words_as_shown b i stands is (facet_posts lo hi listed)
-      (kept_within i (in_listed listed) asked within) ws words cut first first_is shown shown_is in
-      facet_told b i stands is base cut name copied asked (facet_posts lo hi listed) i.docs shown same rows refl kept table_is
 
 -- a vector whose slice was lent lists the same documents
 pub listed_in : (i : IndexView) (hits : Base) (items lent : List Bool) {docs : ℕ} → docs ≡ i.docs → AreListed docs hits items → lent ≡ items → AreListed i.docs hits lent

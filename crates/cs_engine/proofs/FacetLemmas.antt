@@ -5,16 +5,11 @@
 --   known_docs, known_kept     the documents of a facet, and of rows that were looked up, are those of the index
 --   countable_kept   rows of a facet are countable
 --   facet_counts     what is counted
-use Rattle.std.proofs.Common.{◌≡◌, ℕ, ◌+◌, ◌<◌, ◌≤◌, ◌==◌, ◌&&◌, ◌||◌, ◌⊎◌, inl, inr, Bool, true, false, cond, List, [], ◌∷◌, ◌++◌, length, map, get_or}
-use Rattle.std.proofs.Common.{Some, None, refl, sym, ap, ap₂, subst, ◌∙◌, arith}
-use Rattle.std.specs.Prelude.{All, filter, find, is_some, nat_lt}
+use Rattle.std.proofs.Common.{◌≡◌, ℕ, ◌<◌, ◌≤◌, ◌==◌, ◌&&◌, Bool, true, List, length, map}
+use Rattle.std.proofs.Common.{sym, ap, ap₂, subst, ◌∙◌, arith}
+use Rattle.std.specs.Prelude.{All, filter}
 use Rattle.std.specs.List.{list_any}
-use Rattle.std.specs.Str.{bytes_eq}
-use Rattle.std.proofs.lemmas.Bool.{false≢true, ltb-true, ltb-false}
-use Rattle.std.proofs.lemmas.Option.{same_Some}
-use Rattle.std.proofs.lemmas.List.{get_or_default}
-use Rattle.std.proofs.lemmas.List.Folds.{list_any-append}
-use Rattle.std.proofs.lemmas.List.Elements.{All-append, All-cons, All-filter, All-head, All-map, All-nil, All-tail, All-weaker, filter_passes, recursion_from_All}
+use Rattle.std.proofs.lemmas.List.Elements.{All-filter, All-map, All-weaker, filter_passes, recursion_from_All}
 use Rattle.std.proofs.lemmas.List.Kept.{IsStrictlySortedBy-filter}
 use Rattle.cs_base.specs.content.Orders.{by_place}
 use Rattle.cs_base.specs.declared.content.doc.Base.{Base}
@@ -22,14 +17,12 @@ use Rattle.cs_base.specs.declared.content.doc.Post.{Post}
 use Rattle.cs_base.specs.declared.content.limits.TheConstants.{MAX_DOCS}
 use Rattle.cs_base.proofs.ListsLemmas.{all_stay, filter_alike}
 use Rattle.cs_base.proofs.MembersLemmas.{all_then}
-use Rattle.cs_base.proofs.NameMaps.{name_itself}
-use Rattle.cs_file.specs.Indexes.{IndexView, IsIndex}
+use Rattle.cs_file.specs.Indexes.{IndexView}
 use Rattle.cs_meet.specs.Filters.{is_of_doc, keep_docs}
-use Rattle.cs_model_kept.proofs.HeldLemmas.{found_any}
 use Rattle.cs_tables.specs.WordCounts.{AreCountable, HasCounted, WordCountsView, chosen, is_chosen}
 use Rattle.cs_engine.specs.Counting.{AreListed, in_listed}
 use Rattle.cs_engine.specs.IndexReading.{AreWithin, IsWithin}
-use Rattle.cs_engine.specs.Stocked.{docs_in, is_between}
+use Rattle.cs_engine.specs.Stocked.{base_docs, is_between}
 use Rattle.cs_engine.proofs.CountingLemmas.{kept_listed}
 use Rattle.cs_engine.proofs.RowsInRange.{kept_within}
 
@@ -47,7 +40,7 @@ module _ (lo hi : ℕ) (listed : List Bool) (posts all : List Post) (are : posts
       (recursion_from_All (λ p. is_between lo hi p ≡ true) posts between))
 
   pub chosen_kept : (i : IndexView) (base : Base) (docs : List ℕ) (rows : List Post) → AreListed i.docs base listed → AreWithin i posts
-      → docs ≡ docs_in i.docs base → rows ≡ keep_docs posts docs → chosen lo hi listed rows ≡ filter (in_listed listed) posts
+      → docs ≡ base_docs i.docs base → rows ≡ keep_docs posts docs → chosen lo hi listed rows ≡ filter (in_listed listed) posts
   chosen_kept i base docs rows has w docs_are rows_are =
       let asked = filter (in_listed listed) posts in
       ap (chosen lo hi listed) (rows_are ∙ ap (keep_docs posts) docs_are ∙ sym (kept_listed i base listed posts has w))
@@ -68,18 +61,18 @@ known_kept i posts docs w {n} are = All-map (λ d. d < n) (λ p. p.doc) (keep_do
     (All-filter (λ r. list_any (is_of_doc r) docs) (λ p. p.doc < n) posts (docs_below i posts w are))
 
 -- ---- what is counted
-countable_in : (i : IndexView) → IsIndex i → (posts : List Post) → AreWithin i posts → AreCountable posts
-countable_in i is posts w = record {
+countable_in : (i : IndexView) → i.docs ≤ MAX_DOCS → (posts : List Post) → AreWithin i posts → AreCountable posts
+countable_in i few posts w = record {
   ordered = λ n. IsStrictlySortedBy-filter by_place (λ p. p.word == n) posts w.sorted;
   few_docs = All-weaker (IsWithin i.docs (length i.words)) (λ p. p.doc < MAX_DOCS)
-      (λ p h. let d = h.doc in let few = is.few_docs in omega (arith, d, few)) posts w.within;
+      (λ p h. let d = h.doc in omega (arith, d, few)) posts w.within;
 }
 
-pub countable_kept : (i : IndexView) → IsIndex i → (listed : List Bool) (posts : List Post) → AreWithin i posts
+pub countable_kept : (i : IndexView) → i.docs ≤ MAX_DOCS → (listed : List Bool) (posts : List Post) → AreWithin i posts
     → AreCountable (filter (in_listed listed) posts)
 countable_kept i is listed posts w = countable_in i is (filter (in_listed listed) posts) (kept_within i (in_listed listed) posts w)
 
-pub facet_counts : (i : IndexView) → IsIndex i → {lo hi low high : ℕ} → low ≡ lo → high ≡ hi → (listed : List Bool) (posts rows : List Post)
+pub facet_counts : (i : IndexView) → i.docs ≤ MAX_DOCS → {lo hi low high : ℕ} → low ≡ lo → high ≡ hi → (listed : List Bool) (posts rows : List Post)
     → AreWithin i posts → chosen lo hi listed rows ≡ filter (in_listed listed) posts → {new : WordCountsView}
     → (AreCountable (chosen low high listed rows) → HasCounted (chosen low high listed rows) new) → HasCounted (filter (in_listed listed) posts) new
 facet_counts i is lows highs listed posts rows w are {new} step =

@@ -24,7 +24,7 @@ use Rattle.cs_base.specs.content.Orders.{by_doc, AreDocs, AreByDoc}
 use Rattle.cs_meet.specs.Filters as meet
 use Rattle.cs_model.specs.Answers.{PartRows, rows_of_part}
 use Rattle.cs_rank.specs.DocScores.{greatest}
-use Rattle.cs_engine.specs.Stocked.{Stock, corpus_in, every, docs_in}
+use Rattle.cs_engine.specs.Stocked.{Stock, corpus_in, every, base_docs}
 use Rattle.cs_base.proofs.MembersLemmas.{all_then}
 use Rattle.cs_engine.proofs.ListedLemmas.{range_rises, in_range}
 use Rattle.cs_engine.proofs.FoldsLemmas.{part_rows-is}
@@ -64,7 +64,7 @@ pub stays : (p : Post → Bool) (rows : List Post) → AllByRecursion (λ r. p r
 stays p [] h = refl
 stays p (r ∷ rows) h = ap (λ b. cond b (r ∷ filter p rows) (filter p rows)) h.0 ∙ ap (λ l. r ∷ l) (stays p rows h.1)
 
-pub all_kept : (n : ℕ) (rows : List Post) → All (λ p. p.doc < n) rows → rows ≡ keep_docs rows (docs_in n base.All)
+pub all_kept : (n : ℕ) (rows : List Post) → All (λ p. p.doc < n) rows → rows ≡ keep_docs rows (base_docs n base.All)
 all_kept n rows known =
     sym (ap (keep_docs rows) (own_docs with_no_score (λ d. refl) (range_with_len 0 n))
     ∙ stays (λ r. list_any (meet.is_of_doc r) (range_with_len 0 n)) rows

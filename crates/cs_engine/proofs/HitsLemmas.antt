@@ -31,7 +31,7 @@ use Rattle.cs_model.specs.Corpus.{Corpus}
 use Rattle.cs_rank.specs.DocScores.{greatest}
 use Rattle.cs_model_index.specs.Numbered.{row_of, rows_at}
 use Rattle.cs_model_kept.specs.Entries.{scored_hits}
-use Rattle.cs_engine.specs.Stocked.{Stock, corpus_in, base_hits, docs_in}
+use Rattle.cs_engine.specs.Stocked.{Stock, corpus_in, base_hits, base_docs}
 use Rattle.cs_engine.proofs.ListedLemmas.{keys_numbered, range_rises}
 
 -- ---- one more part
@@ -130,5 +130,5 @@ module _ (s : Stock) (done : List PartRows) (p : PartRows) (posts : List Post) (
       ∙ ap (filter (λ r. is_listed now r.doc)) (is ∙ sym (last_more done p ∙ ap (λ b. if b then [] else p.rows) e))
 
   module _ (b : Base) (lists : base_hits (length s.titles) b ≡ scored_hits k done) where
-    pub listed_docs : docs_in (length s.titles) b ≡ ds
+    pub listed_docs : base_docs (length s.titles) b ≡ ds
     listed_docs = ap (map (λ h. h.doc)) lists ∙ own_docs (scored done) (λ d. refl) ds

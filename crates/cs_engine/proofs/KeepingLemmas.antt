@@ -31,7 +31,7 @@ use Rattle.cs_base.specs.declared.index.plan.Plan.{Plan}
 use Rattle.cs_base.specs.declared.index.plan.Plan.TheVariants.{Same, Narrow, Extend, Fresh}
 use Rattle.cs_base.proofs.ListsLemmas.{filter_through}
 use Rattle.cs_cache.specs.AnswerList.{AnswerList}
-use Rattle.cs_file.specs.Indexes.{IndexView, IsIndex, StandsFor}
+use Rattle.cs_file.specs.Indexes.{IndexView, StandsFor}
 use Rattle.cs_model.specs.Answers.{begins}
 use Rattle.cs_model.specs.Canonical.{canonical}
 use Rattle.cs_model.specs.Corpus.{Corpus}
@@ -40,9 +40,8 @@ use Rattle.cs_model.specs.Keys.{keys_of, last_prefix, narrower, narrowers, short
 use Rattle.cs_model.specs.Refusals.{IsOfGrammar}
 use Rattle.cs_model.proofs.CanonicalReading.{different}
 use Rattle.cs_model_index.specs.Numbered.{rows_at, row_of, word_at}
-use Rattle.cs_model_index.specs.Sections.{file_corpus}
 use Rattle.cs_model_kept.specs.declared.limits.TheConstants.{MAX_ENTRY_SIZE}
-use Rattle.cs_model_kept.specs.Entries.{Entry, EntryOf, entry_at, entry_of, entry_size}
+use Rattle.cs_model_kept.specs.Entries.{Entry, EntryOf, entry_at, entry_of, kept_entry_size}
 use Rattle.cs_model_kept.specs.KeptList.{GoodFor, KeptOf, KeptList, after, found, kept_at, kept_by, kept_fresh, plan, plan_by, put_in_front, to_front}
 use Rattle.cs_model_kept.specs.KeptList.{used_entry, used_key, is_same}
 use Rattle.cs_model_kept.specs.KeptListLaws.{Finds, Serves, before_last}
@@ -55,11 +54,10 @@ use Rattle.cs_model_kept.proofs.ShorterQueries.{shorter_stays}
 use Rattle.cs_model_kept.proofs.TypedLemmas.{none_some}
 use Rattle.cs_engine.specs.Keeping.{FitsQuery, HoldsGood, IsEntryOver, IsKeptBehind, IsKeptEntry, KeepsFitting, became, entries_behind, entry_with, fronted}
 use Rattle.cs_engine.specs.Keeping.{note_plan}
-use Rattle.cs_engine.specs.IndexReading.{stock_of}
+use Rattle.cs_engine.specs.Sources.{IsSource, SourceView, seen}
 use Rattle.cs_engine.specs.Steps.{EntryFits, end_positive, is_in_base, last_is_positive}
 use Rattle.cs_engine.specs.Stocked.{corpus_in}
 use Rattle.cs_engine.proofs.RowsInRange.{kept_within}
-use Rattle.cs_engine.proofs.StockLemmas.{stock_corpus, words_are}
 
 -- ---- what is found
 unsome : {X : Type 0} (a b : X) → Some a ≡ Some b → a ≡ b
@@ -144,12 +142,12 @@ module _ (i : IndexView) (held : KeptOf (EntryOf Post)) (fit : KeepsFitting i he
         by_prefix (Some p) l h = (refl, by_found p l (find (λ n. n.cut == cut) (map (narrower q) (shorter_words p))) refl h)
 
 -- ---- over the bytes of the index
-module _ (b : List ℕ) (i : IndexView) (stands : StandsFor b i) (is : IsIndex i) (q : Query) (e : EntryOf Post) where
-  pub in_stock : IsEntryOver b i q e → entry_at (stock_of b).words e ≡ entry_of (corpus_in (stock_of b)) q
-  in_stock h = ap (λ ws. entry_at ws e) (sym (words_are b i stands is)) ∙ h ∙ ap (λ k. entry_of k q) (sym (stock_corpus b i stands is))
+module _ (b : List ℕ) (v : SourceView) (stands : StandsFor b v.index) (is : IsSource v) (q : Query) (e : EntryOf Post) where
+  pub in_stock : IsEntryOver (corpus_in (v.stock b)) (seen v) q e → entry_at (v.stock b).words e ≡ entry_of (corpus_in (v.stock b)) q
+  in_stock h = ap (λ ws. entry_at ws e) (sym (is.told b stands).words) ∙ h
 
-  pub from_stock : entry_at (stock_of b).words e ≡ entry_of (corpus_in (stock_of b)) q → IsEntryOver b i q e
-  from_stock h = ap (λ ws. entry_at ws e) (words_are b i stands is) ∙ h ∙ ap (λ k. entry_of k q) (stock_corpus b i stands is)
+  pub from_stock : entry_at (v.stock b).words e ≡ entry_of (corpus_in (v.stock b)) q → IsEntryOver (corpus_in (v.stock b)) (seen v) q e
+  from_stock h = ap (λ ws. entry_at ws e) (is.told b stands).words ∙ h
 
 module _ (k : Corpus) (ws : List (List ℕ)) (held : KeptOf (EntryOf Post)) (q : Query) where
   abbrev told : KeptList
@@ -163,24 +161,21 @@ module _ (k : Corpus) (ws : List (List ℕ)) (held : KeptOf (EntryOf Post)) (q :
       ∙ f.entry in
       ap (λ (x : List ℕ × Entry). x.1) (unsome (e.0, entry_at ws e.1) (canonical r, entry_of k r) through)
 
-module _ (b : List ℕ) (i : IndexView) (held : KeptOf (EntryOf Post)) (good : HoldsGood b i held) (q : Query) (g : IsOfGrammar q) where
-  abbrev c : Corpus
-  c = file_corpus b
-
+module _ (c : Corpus) (i : IndexView) (held : KeptOf (EntryOf Post)) (good : HoldsGood c i held) (q : Query) (g : IsOfGrammar q) where
   serves_by : (by_plan : Plan) → by_plan ≡ plan_by held (keys_of q) → Serves c (kept_at i.words held) q by_plan
   unfolding plan
   serves_by by_plan is = subst (Serves c (kept_at i.words held) q) (numbers_plan_alike i.words held (keys_of q) ∙ sym is)
       (plans_serve c (kept_at i.words held) q good g)
 
   module _ (e : List ℕ × EntryOf Post) where
-    pub same_told : Same ≡ plan_by held (keys_of q) → used_entry held (keys_of q) Same ≡ Some e → IsEntryOver b i q e.1
+    pub same_told : Same ≡ plan_by held (keys_of q) → used_entry held (keys_of q) Same ≡ Some e → IsEntryOver c i q e.1
     same_told is used = finds_told c i.words held q Same q e (serves_by Same is) used
 
-    pub extend_told : Extend ≡ plan_by held (keys_of q) → used_entry held (keys_of q) Extend ≡ Some e → IsEntryOver b i (before_last q) e.1
+    pub extend_told : Extend ≡ plan_by held (keys_of q) → used_entry held (keys_of q) Extend ≡ Some e → IsEntryOver c i (before_last q) e.1
     extend_told is used = finds_told c i.words held q Extend (before_last q) e (serves_by Extend is).3 used
 
     pub narrow_told : (cut : ℕ) → Narrow cut ≡ plan_by held (keys_of q) → used_entry held (keys_of q) (Narrow cut) ≡ Some e → (p : List ℕ)
-        → last_prefix q ≡ Some p → IsEntryOver b i q (entry_with e.1.base (filter (λ post. begins p (word_at i.words post.word)) e.1.rows))
+        → last_prefix q ≡ Some p → IsEntryOver c i q (entry_with e.1.base (filter (λ post. begins p (word_at i.words post.word)) e.1.rows))
     narrow_told cut is used p typed =
         let s = serves_by (Narrow cut) is in
         let same : s.0 ≡ p = unsome s.0 p (sym s.2 ∙ typed) in
@@ -249,7 +244,7 @@ module _ (i : IndexView) (q : Query) (g : IsOfGrammar q) (a : AnswerList) (keys 
   kept_behind (Some e) own new h = put_behind (kept_fresh e) e own new h
 
 never_had : (e : EntryOf Post) → ¬ (kept_fresh e ≡ kept.Had)
-never_had e h = cases (nat_lt MAX_ENTRY_SIZE (entry_size e)) h
+never_had e h = cases (nat_lt MAX_ENTRY_SIZE (kept_entry_size e)) h
   where
     cases : (b : Bool) → ¬ ((if b then kept.TooLarge else kept.Kept) ≡ kept.Had)
     cases true h = cc
@@ -263,14 +258,14 @@ was_had Extend None h = (λ same. absurd (let no : Extend ≡ Same = same in cc)
 was_had Fresh None h = (λ same. absurd (let no : Fresh ≡ Same = same in cc), λ had. absurd (let no : kept.TooLarge ≡ kept.Had = had in cc))
 was_had by_plan (Some e) h = (λ same. absurd (true≢false (h (ap is_same same))), λ had. absurd (never_had e had))
 
--- ---- over the bytes of the index
-module _ (b : List ℕ) (i : IndexView) (q : Query) where
-  pub fresh_is : (e : EntryOf Post) → IsEntryOver b i q e → kept_fresh e ≡ kept_fresh (entry_of (file_corpus b) q)
+-- ---- of a corpus
+module _ (k : Corpus) (i : IndexView) (q : Query) where
+  pub fresh_is : (e : EntryOf Post) → IsEntryOver k i q e → kept_fresh e ≡ kept_fresh (entry_of k q)
   fresh_is e own = sym (numbers_keep_alike i.words e) ∙ ap (λ (x : Entry). kept_fresh x) own
 
   pub kept_is : (by_plan : Plan) (o : Option (EntryOf Post)) → (is_same by_plan ≡ true → is_some o ≡ false)
-      → (is_some o ≡ false → is_same by_plan ≡ false → kept_fresh (entry_of (file_corpus b) q) ≡ kept.TooLarge) → IfSome o (IsEntryOver b i q)
-      → became by_plan o ≡ kept_by by_plan (entry_of (file_corpus b) q)
+      → (is_some o ≡ false → is_same by_plan ≡ false → kept_fresh (entry_of k q) ≡ kept.TooLarge) → IfSome o (IsEntryOver k i q)
+      → became by_plan o ≡ kept_by by_plan (entry_of k q)
   kept_is Same None h large own = refl
   kept_is Same (Some e) h large own = absurd (true≢false (h refl))
   kept_is (Narrow cut) None h large own = sym (large refl refl)
@@ -280,13 +275,10 @@ module _ (b : List ℕ) (i : IndexView) (q : Query) where
   kept_is Fresh None h large own = sym (large refl refl)
   kept_is Fresh (Some e) h large own = fresh_is e own
 
-module _ (b : List ℕ) (i : IndexView) (q : Query) (g : IsOfGrammar q) (a : AnswerList) (keys : Keys) (are : keys ≡ keys_of q) (by_plan : Plan)
+module _ (k : Corpus) (i : IndexView) (q : Query) (g : IsOfGrammar q) (a : AnswerList) (keys : Keys) (are : keys ≡ keys_of q) (by_plan : Plan)
     (is : by_plan ≡ plan_by a.entries keys) where
   abbrev ws : List (List ℕ)
   ws = i.words
-
-  abbrev k : Corpus
-  k = file_corpus b
 
   abbrev held : KeptList
   held = kept_at ws a.entries
@@ -302,7 +294,7 @@ module _ (b : List ℕ) (i : IndexView) (q : Query) (g : IsOfGrammar q) (a : Ans
   fronts_alike = sym (numbers_front_alike ws a.entries (used_key keys by_plan)) ∙ ap (λ x. to_front held (used_key x by_plan)) are
       ∙ ap (λ p. to_front held (used_key (keys_of q) p)) plan_is
 
-  pub after_is : (o : Option (EntryOf Post)) → IfSome o (IsEntryOver b i q)
+  pub after_is : (o : Option (EntryOf Post)) → IfSome o (IsEntryOver k i q)
       → kept_at ws (entries_behind a keys by_plan o) ≡ after held a.capacity q (became by_plan o) k
   unfolding after
   after_is None own = elim (is_same by_plan)
@@ -325,6 +317,6 @@ module _ (b : List ℕ) (i : IndexView) (q : Query) (g : IsOfGrammar q) (a : Ans
   is_new None h was same = absurd (not_kept (is_same by_plan) was)
   is_new (Some e) h was same = true≢false (h (ap is_same (plan_is ∙ same)))
 
-  pub good_behind : HoldsGood b i a.entries → (o : Option (EntryOf Post)) → (is_same by_plan ≡ true → is_some o ≡ false) → IfSome o (IsEntryOver b i q)
-      → HoldsGood b i (entries_behind a keys by_plan o)
+  pub good_behind : HoldsGood k i a.entries → (o : Option (EntryOf Post)) → (is_same by_plan ≡ true → is_some o ≡ false) → IfSome o (IsEntryOver k i q)
+      → HoldsGood k i (entries_behind a keys by_plan o)
   good_behind good o h own = subst (GoodFor k) (sym (after_is o own)) (lists_stay_good k held a.capacity q (became by_plan o) good g (is_new o h))

@@ -17,6 +17,7 @@ use Rattle.cs_base.specs.declared.index.plan.Plan.TheVariants.{Same, Narrow, Ext
 use Rattle.cs_cache.specs.AnswerList.{AnswerList}
 use Rattle.cs_file.specs.Indexes.{IndexView}
 use Rattle.cs_model.specs.Answers.{begins}
+use Rattle.cs_model.specs.Corpus.{Corpus}
 use Rattle.cs_model.specs.Keys.{keys_of, last_prefix}
 use Rattle.cs_model.specs.Refusals.{IsOfGrammar}
 use Rattle.cs_model.specs.Replies.{Reply}
@@ -27,8 +28,9 @@ use Rattle.cs_model_kept.specs.Entries.{EntryOf}
 use Rattle.cs_model_kept.specs.KeptList.{KeptOf, plan_by, used_entry}
 use Rattle.cs_model_kept.specs.KeptListLaws.{before_last}
 use Rattle.cs_engine.specs.Asking.{titles_asked}
-use Rattle.cs_engine.specs.Keeping.{AnswersRight, AreGood, EngineView, FitsQuery, HoldsGood, IsAfter, IsEntryOver, IsPlanned, engine_with, entry_with}
+use Rattle.cs_engine.specs.Keeping.{AnswersRight, AreGoodFor, EngineView, FitsQuery, HoldsGood, IsAfterFor, IsEntryOver, IsPlanned, engine_with, entry_with}
 use Rattle.cs_engine.specs.IndexReading.{AreWithin}
+use Rattle.cs_engine.specs.Stocked.{Stock}
 use Rattle.cs_file.specs.declared.fault.FetchFault.{FetchFault}
 use Rattle.cs_engine.specs.declared.held.HeldRange.{HeldRange}
 use Rattle.cs_engine.specs.declared.note.Note.{Note}
@@ -54,21 +56,21 @@ module _ {i : IndexView} {held : KeptOf (EntryOf Post)} {q : Query} {keys : Keys
   plan_of : (own : Plan) → by_plan ≡ own → own ≡ plan_by held (keys_of q)
   plan_of own same = sym same ∙ planned.by_kept ∙ ap (plan_by held) planned.of_query
 
-  pub same_lent : by_plan ≡ Same → FitsQuery i q lent × ((bytes : List ℕ) → HoldsGood bytes i held → IsEntryOver bytes i q lent)
+  pub same_lent : by_plan ≡ Same → FitsQuery i q lent × ((k : Corpus) → HoldsGood k i held → IsEntryOver k i q lent)
   same_lent same =
       let v = lent_by Same same (λ f. let no : Same ≡ Fresh = f in cc) in (
         subst (FitsQuery i q) v.same (same_fits i held planned.fit q g v.kept v.found),
-        λ bytes good. subst (IsEntryOver bytes i q) v.same (same_told bytes i held good q g v.kept (plan_of Same same) v.found),
+        λ k good. subst (IsEntryOver k i q) v.same (same_told k i held good q g v.kept (plan_of Same same) v.found),
       )
 
   pub extend_lent : by_plan ≡ Extend → (1 ≤ length (out-Query q).parts) × FitsQuery i
-      (before_last q) lent × ((bytes : List ℕ) → HoldsGood bytes i held → IsEntryOver bytes i (before_last q) lent)
+      (before_last q) lent × ((k : Corpus) → HoldsGood k i held → IsEntryOver k i (before_last q) lent)
   extend_lent same =
       let v = lent_by Extend same (λ f. let no : Extend ≡ Fresh = f in cc) in
       let fits = extend_fits i held planned.fit q g v.kept v.found in (
         (let several = fits.0 in omega (arith, several)),
         subst (FitsQuery i (before_last q)) v.same fits.1,
-        λ bytes good. subst (IsEntryOver bytes i (before_last q)) v.same (extend_told bytes i held good q g v.kept (plan_of Extend same) v.found),
+        λ k good. subst (IsEntryOver k i (before_last q)) v.same (extend_told k i held good q g v.kept (plan_of Extend same) v.found),
       )
 
   not_fresh : (cut : ℕ) → ¬ (Narrow cut ≡ Fresh)
@@ -82,11 +84,11 @@ module _ {i : IndexView} {held : KeptOf (EntryOf Post)} {q : Query} {keys : Keys
 
   pub narrow_lent : (cut : ℕ) → by_plan ≡ Narrow cut → (e : EntryOf Post) → e.base ≡ base
       → IfSome (last_prefix q) (λ p. e.rows ≡ filter (λ post. begins p (word_at i.words post.word)) rows)
-      → FitsQuery i q e × ((bytes : List ℕ) → HoldsGood bytes i held → IsEntryOver bytes i q e)
+      → FitsQuery i q e × ((k : Corpus) → HoldsGood k i held → IsEntryOver k i q e)
   narrow_lent cut same e base_is rows_are = cases (last_prefix q) refl (narrow_typed cut same).0 rows_are
     where
       cases : (o : Option (List ℕ)) → last_prefix q ≡ o → IsSome o → IfSome o (λ p. e.rows ≡ filter (λ post. begins p (word_at i.words post.word)) rows)
-          → FitsQuery i q e × ((bytes : List ℕ) → HoldsGood bytes i held → IsEntryOver bytes i q e)
+          → FitsQuery i q e × ((k : Corpus) → HoldsGood k i held → IsEntryOver k i q e)
       cases None typed some h = absurd cc
       cases (Some p) typed some h =
           let v = lent_by (Narrow cut) same (not_fresh cut) in
@@ -96,7 +98,7 @@ module _ {i : IndexView} {held : KeptOf (EntryOf Post)} {q : Query} {keys : Keys
           ap (λ (x : EntryOf Post). entry_with x.base (filter keeps x.rows)) v.same ∙ ap (entry_with base) (sym h)
           ∙ ap (λ x. entry_with x e.rows) (sym base_is) in (
             subst (FitsQuery i q) whole (narrowed_fits i q keeps v.kept.1 fits),
-            λ bytes good. subst (IsEntryOver bytes i q) whole (narrow_told bytes i held good q g v.kept cut (plan_of (Narrow cut) same) v.found p typed),
+            λ k good. subst (IsEntryOver k i q) whole (narrow_told k i held good q g v.kept cut (plan_of (Narrow cut) same) v.found p typed),
           )
 
 -- ---- what may be read
@@ -109,12 +111,13 @@ err_due q (Ok r) h = absurd cc
 err_due q (Err e) h = refl
 
 -- ---- refusals
-pub refusal_right : {b : List ℕ} {r : Request} {old new : EngineView} (a : Result (Reply × Note) FetchFault) → IsErr a → AreGood b new → AnswersRight b r old a new
+pub refusal_right : {k : Corpus} {s : Stock} {r : Request} {old new : EngineView} (a : Result (Reply × Note) FetchFault) → IsErr a
+    → AreGoodFor k s new → AnswersRight k s r old a new
 refusal_right (Ok x) h good = absurd cc
 refusal_right (Err e) h good = record { reply = tt; good = good; after = tt }
 
 -- what is kept after a reply doesn't speak of what is held
-pub same_after : (b : List ℕ) (q : Query) (old : EngineView) (i : IndexView) (x : AnswerList) (h h' : List HeldRange) (a : Result (Reply × Note) FetchFault)
-    → IsAfter b q old a (engine_with i x h) → IsAfter b q old a (engine_with i x h')
-same_after b q old i x h h' (Ok r) after = after
-same_after b q old i x h h' (Err e) after = tt
+pub same_after : (k : Corpus) (q : Query) (old : EngineView) (i : IndexView) (x : AnswerList) (h h' : List HeldRange) (a : Result (Reply × Note) FetchFault)
+    → IsAfterFor k q old a (engine_with i x h) → IsAfterFor k q old a (engine_with i x h')
+same_after k q old i x h h' (Ok r) after = after
+same_after k q old i x h h' (Err e) after = tt

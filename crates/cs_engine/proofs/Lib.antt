@@ -34,3 +34,7 @@ pub mod AskedWords
 pub mod WalkLemmas
 pub mod SpansLemmas
 pub mod WideLemmas
+pub mod OpenedLemmas
+pub mod OverSources
+pub mod ChosenLemmas
+pub mod FacetTables

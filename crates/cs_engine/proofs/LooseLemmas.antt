@@ -13,8 +13,7 @@ use Rattle.cs_base.specs.declared.content.doc.Base.{Base}
 use Rattle.cs_base.specs.declared.content.doc.Post.{Post}
 use Rattle.cs_base.specs.declared.content.query.Query.{Query, out-Query}
 use Rattle.cs_base.specs.declared.index.plan.Kept.TheVariants as kept
-use Rattle.cs_file.specs.Indexes.{IndexView, IsIndex, StandsFor}
-use Rattle.cs_model_index.specs.Sections.{file_corpus}
+use Rattle.cs_file.specs.Indexes.{StandsFor}
 use Rattle.cs_model_kept.specs.Entries.{entry_of, listed_count}
 use Rattle.cs_model_kept.specs.KeptList.{kept_fresh}
 use Rattle.cs_model_kept.specs.declared.limits.TheConstants.{MAX_ENTRY_SIZE}
@@ -27,10 +26,11 @@ use Rattle.cs_engine.specs.Blockwise.{HasFound}
 use Rattle.cs_engine.specs.Counting.{AreListed, in_listed}
 use Rattle.cs_engine.specs.Keeping.{FitsQuery, IsEntryOver, entry_with}
 use Rattle.cs_engine.specs.Loose.{AreCountsFor, AreLastWords, IsEntryByWords, IsTableFor}
-use Rattle.cs_engine.specs.IndexReading.{AreWithin, stock_of}
+use Rattle.cs_engine.specs.IndexReading.{AreWithin}
+use Rattle.cs_engine.specs.Sources.{IsSource, SourceView, seen}
 use Rattle.cs_engine.specs.Steps.{EntryFits, last_is_positive, posts_after}
-use Rattle.cs_engine.specs.Stocked.{docs_in, is_between}
-use Rattle.cs_engine.proofs.CountingLemmas.{stock_within}
+use Rattle.cs_engine.specs.Stocked.{corpus_in, base_docs, is_between}
+use Rattle.cs_engine.proofs.OverSources.{source_within}
 use Rattle.cs_engine.proofs.KeepingLemmas.{fresh_is}
 use Rattle.cs_engine.proofs.PackingLemmas.{AreAlike}
 use Rattle.cs_engine.proofs.PlainParts.{listed_entry, listed_fits}
@@ -40,52 +40,53 @@ use Rattle.cs_engine.proofs.RowsInRange.{kept_within}
 large_true : (m n : ℕ) → m < n → nat_lt m n ≡ true
 large_true m n lt = grind (arith, nat_tests)
 
-module _ (i : IndexView) (q : Query) (hits : Base) (lo hi : ℕ) (asks : AreLastWords i q hits lo hi) (listed : List Bool)
-    (has : AreListed i.docs hits listed) where
-  pub entry_fits : (rows : List Post) → AreWithin i rows → All (λ p. in_listed listed p ≡ true) rows → FitsQuery i q (entry_with hits rows)
+module _ (v : SourceView) (q : Query) (hits : Base) (lo hi : ℕ) (asks : AreLastWords (seen v) q hits lo hi) (listed : List Bool)
+    (has : AreListed v.docs hits listed) where
+  pub entry_fits : (rows : List Post) → AreWithin (seen v) rows → All (λ p. in_listed listed p ≡ true) rows → FitsQuery (seen v) q (entry_with hits rows)
   entry_fits rows w passed =
       let n = length (out-Query q).parts in
       let many : n - 1 + 1 ≡ n = (let some = asks.some in omega (arith, some)) in
-      let fits = listed_fits i hits listed has rows w passed (n - 1) asks.base in
-      subst (λ m. EntryFits i (last_is_positive q) m (entry_with hits rows)) many
-      (subst (λ p. EntryFits i p (n - 1 + 1) (entry_with hits rows)) (sym asks.positive) fits)
+      let fits = listed_fits (seen v) hits listed has rows w passed (n - 1) asks.base in
+      subst (λ m. EntryFits (seen v) (last_is_positive q) m (entry_with hits rows)) many
+      (subst (λ p. EntryFits (seen v) p (n - 1 + 1) (entry_with hits rows)) (sym asks.positive) fits)
 
-  module _ (b : List ℕ) (stands : StandsFor b i) (is : IsIndex i) (by : IsEntryByWords b i q hits lo hi) where
+  module _ (b : List ℕ) (stands : StandsFor b v.index) (is : IsSource v) (by : IsEntryByWords b v q hits lo hi) where
     abbrev chosen : List Post
-    chosen = filter (in_listed listed) (filter (is_between lo hi) (stock_of b).posts)
+    chosen = filter (in_listed listed) (filter (is_between lo hi) (v.stock b).posts)
 
-    pub chosen_entry : (posts : List Post) → posts ≡ filter (in_listed listed) (filter (is_between lo hi) (stock_of b).posts)
-        → IsEntryOver b i q (entry_with hits posts)
-    chosen_entry posts are = subst (IsEntryOver b i q) (sym (listed_entry i hits listed has b stands is lo hi posts are)) by
+    pub chosen_entry : (posts : List Post) → posts ≡ filter (in_listed listed) (filter (is_between lo hi) (v.stock b).posts)
+        → IsEntryOver (corpus_in (v.stock b)) (seen v) q (entry_with hits posts)
+    chosen_entry posts are = subst (IsEntryOver (corpus_in (v.stock b)) (seen v) q) (sym (listed_entry v hits listed has b stands is lo hi posts are)) by
 
-    pub large_entry : (posts : List Post) → posts ≡ filter (in_listed listed) (filter (is_between lo hi) (stock_of b).posts)
-        → MAX_ENTRY_SIZE < length posts + listed_count hits → kept_fresh (entry_of (file_corpus b) q) ≡ kept.TooLarge
+    pub large_entry : (posts : List Post) → posts ≡ filter (in_listed listed) (filter (is_between lo hi) (v.stock b).posts)
+        → MAX_ENTRY_SIZE < length posts + listed_count hits → kept_fresh (entry_of (corpus_in (v.stock b)) q) ≡ kept.TooLarge
     large_entry posts are lt =
-        sym (fresh_is b i q (entry_with hits posts) (chosen_entry posts are))
+        sym (fresh_is (corpus_in (v.stock b)) (seen v) q (entry_with hits posts) (chosen_entry posts are))
         ∙ ap (λ x. if x then kept.TooLarge else kept.Kept) (large_true MAX_ENTRY_SIZE (length posts + listed_count hits) lt)
 
-    module _ (rows : List Post) (a : AreAlike (stock_of b) lo hi listed rows) where
-      pub is_large : MAX_ENTRY_SIZE < length rows + listed_count hits → kept_fresh (entry_of (file_corpus b) q) ≡ kept.TooLarge
+    module _ (rows : List Post) (a : AreAlike (v.stock b) lo hi listed rows) where
+      pub is_large : MAX_ENTRY_SIZE < length rows + listed_count hits → kept_fresh (entry_of (corpus_in (v.stock b)) q) ≡ kept.TooLarge
       is_large lt = large_entry chosen refl (subst (λ n. MAX_ENTRY_SIZE < n + listed_count hits) a.long lt)
 
 -- what is found by blocks
-pub found_counts : (i : IndexView) (q : Query) (hits : Base) (lo hi : ℕ) → AreLastWords i q hits lo hi → (b : List ℕ) → StandsFor b i → IsIndex i
-    → IsEntryByWords b i q hits lo hi → (found : Base) (t : WordCountsView)
-    → HasFound hits (posts_after i.docs hits false (filter (is_between lo hi) (stock_of b).posts)).rows found t → AreCountsFor i b q found t
-found_counts i q hits lo hi asks b stands is by found t f =
-    let posts = filter (is_between lo hi) (stock_of b).posts in
+pub found_counts : (v : SourceView) (q : Query) (hits : Base) (lo hi : ℕ) → AreLastWords (seen v) q hits lo hi → (b : List ℕ) → StandsFor b v.index
+    → IsSource v
+    → IsEntryByWords b v q hits lo hi → (found : Base) (t : WordCountsView)
+    → HasFound hits (posts_after v.docs hits false (filter (is_between lo hi) (v.stock b).posts)).rows found t → AreCountsFor v b q found t
+found_counts v q hits lo hi asks b stands is by found t f =
+    let posts = filter (is_between lo hi) (v.stock b).posts in
     record {
-      posts = (posts_after i.docs hits false posts).rows;
-      found = found_by_entry i q (posts_after i.docs hits false posts) true (sym asks.positive) found f.hits_are b stands is by;
-      within = kept_within i (λ r. list_any (is_of_doc r) (docs_in i.docs hits)) posts
-          (kept_within i (is_between lo hi) (stock_of b).posts (stock_within b i stands is));
+      posts = (posts_after v.docs hits false posts).rows;
+      found = found_by_entry v q (posts_after v.docs hits false posts) true (sym asks.positive) found f.hits_are b stands is by;
+      within = kept_within (seen v) (λ r. list_any (is_of_doc r) (base_docs v.docs hits)) posts
+          (kept_within (seen v) (is_between lo hi) (v.stock b).posts (source_within b v stands is));
       table = f.table;
     }
 
 -- the table of what is counted
-pub table_counted : {i : IndexView} {b : List ℕ} {q : Query} {cut : ℕ} {hits : Base} {t : WordCountsView} {table : Table} → AreCountsFor i b q hits t
+pub table_counted : {v : SourceView} {b : List ℕ} {q : Query} {cut : ℕ} {hits : Base} {t : WordCountsView} {table : Table} → AreCountsFor v b q hits t
     → ((rows : List Post) → AreCountable rows → HasCounted rows t → table.total ≡ length (post_table rows))
-    → ((rows : List Post) → AreCountable rows → HasCounted rows t → table.first ≡ take cut (post_table rows)) → IsTableFor i b q cut hits table
+    → ((rows : List Post) → AreCountable rows → HasCounted rows t → table.first ≡ take cut (post_table rows)) → IsTableFor v b q cut hits table
 table_counted {cut = cut} a total first = record {
   posts = a.posts;
   found = a.found;

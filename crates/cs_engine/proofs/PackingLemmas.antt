@@ -1,15 +1,18 @@
 -- Posts as numbers: their order, and what one sort of them gives.
 --
 --   AreAlike s lo hi listed rows     rows in any order are those of a stock with these words in listed documents
---   AreGathered i told lo hi listed keys     numbers of such rows
+--   AreGathered v told lo hi listed keys     numbers of such rows
 --   weight_kept         the weight of a score's column is the score
 --   unkeyed             a packed post is the post of its number
 --   ordered_is, ordered_by     what is left of sorted numbers is in order, and loses no member
 --   packed_posts, within_posts     posts that are read are packed, and in range
+--   held_packed, held_within, held_known     so are those in memory
 --   no_keys, keys_more  numbers of no block, and of one block more
---   run_alike, run_longer     the posts of a run of blocks
+--   run_longer      the posts of a run of blocks
+--   chosen_are      with those in memory
+--   with_held       what is gathered of some blocks, with those in memory
 --   gathered, all_in_room, all_gathered     what is gathered of one
---   in_rows, run_known, ordered_within, ordered_passed, ordered_told     what is brought into order of it
+--   in_rows, ordered_within, ordered_passed, ordered_told     what is brought into order of it
 --   as_they_come        and what isn't
 --   keys_among, keys_between     what holds of each of the rows
 use Rattle.std.proofs.Common.{◌≡◌, ℕ, zero, suc, ◌+◌, ◌-◌, ◌*◌, ◌/◌, ◌%◌, ◌<◌, ◌≤◌, ◌==◌, ◌&&◌, ◌||◌, Bool, true, false, true≢false, cond, List, [], ◌∷◌}
@@ -23,8 +26,8 @@ use Rattle.std.specs.declared.cmp.Ordering.TheVariants.{Less, Equal}
 use Rattle.std.proofs.lemmas.Bool.{and_parts, cases_eq, eq-eqb, eqb-true, leb-true, ltb-false, ltb-true}
 use Rattle.std.proofs.lemmas.Bool.Decides.{nat_tests}
 use Rattle.std.proofs.lemmas.List.{map-append, length-append}
-use Rattle.std.proofs.lemmas.List.Elements.{All-nil, All-append, All-contains, All-filter, All-from_recursion, All-map, All-weaker, Contains-append_left}
-use Rattle.std.proofs.lemmas.List.Elements.{Contains-append_right, Contains-get_or, recursion_from_All}
+use Rattle.std.proofs.lemmas.List.Elements.{All-nil, All-append, All-contains, All-filter, All-from_recursion, All-map, All-weaker}
+use Rattle.std.proofs.lemmas.List.Elements.{Contains-get_or, filter_passes, recursion_from_All}
 use Rattle.std.proofs.lemmas.List.Kept.{IsStrictlySortedBy-filter}
 use Rattle.std.proofs.lemmas.List.Sorted.{All-permutation, IsPermutation-map, list_any-IsPermutation}
 use Rattle.cs_base.specs.content.Orders.{AreSorted, by_place}
@@ -33,23 +36,23 @@ use Rattle.cs_base.specs.declared.content.scores.Weights.{Weights}
 use Rattle.cs_base.proofs.MembersLemmas.{again}
 use Rattle.cs_base.proofs.OrdersLemmas.{Less-from_lt}
 use Rattle.cs_file.specs.CallAnswers.{IsRanged}
-use Rattle.cs_file.specs.Indexes.{AreMet, IndexView, IsIndex, StandsFor}
-use Rattle.cs_file.proofs.StoodLemmas.{stood_count}
+use Rattle.cs_file.specs.Indexes.{AreMet, IndexView, StandsFor}
 use Rattle.cs_meet.specs.Filters.{shares_place}
 use Rattle.cs_tables.specs.WordCounts.{AreCountable, is_chosen}
 use Rattle.cs_model_index.specs.BlockRules.{is_scored}
-use Rattle.cs_model_index.specs.Sections.{image_of}
-use Rattle.cs_engine.specs.declared.gathering.Gathered.{Gathered}
+use Rattle.cs_engine.specs.declared.gathering.GatheredKeys.{GatheredKeys}
 use Rattle.cs_engine.specs.GatheredRows.{HasGathered}
 use Rattle.cs_engine.specs.Packing.{AreFrom, HasKeys, IsOrdered, IsPacked, apart, column_of, doc_of_key, is_weight, key_of, place_of_key, post_of_key, score_of}
 use Rattle.cs_engine.specs.Packing.{word_of_key}
 use Rattle.cs_engine.specs.Counting.{in_listed}
-use Rattle.cs_engine.specs.IndexReading.{AreWithin, IsWithin, WhereStood, run_of, stock_of}
+use Rattle.cs_engine.specs.IndexReading.{AreWithin, IsWithin, WhereStood, run_of}
+use Rattle.cs_engine.specs.Sources.{IsIn, IsSource, SourceView, seen}
 use Rattle.cs_engine.specs.Stocked.{Stock, is_between}
 use Rattle.cs_engine.specs.declared.packing.TheConstants.{NO_PLACE, POSITION_ROOM}
-use Rattle.cs_engine.proofs.CountingLemmas.{counted_alike, counted_long, countable, flat_more}
+use Rattle.cs_engine.proofs.CountingLemmas.{flat_more}
 use Rattle.cs_engine.proofs.RowsInRange.{same_posts}
-use Rattle.cs_engine.proofs.StockLemmas.{from_file, score_fits, stocked}
+use Rattle.cs_engine.proofs.OverSources.{chosen_alike, chosen_among, chosen_countable, chosen_long}
+use Rattle.cs_engine.proofs.StockLemmas.{score_fits}
 use Rattle.cs_engine.proofs.UnionLemmas.{one_post}
 
 -- ---- rows in any order
@@ -60,14 +63,14 @@ pub record AreAlike (s : Stock) (lo hi : ℕ) (listed : List Bool) (rows : List 
   pub long : length rows ≡ length (filter (in_listed listed) (filter (is_between lo hi) s.posts))
   pub countable : AreCountable rows
 
--- each row passes, and is in the range of the index
-pub record AreGathered (i : IndexView) (told : Option (List ℕ)) (lo hi : ℕ) (listed : List Bool) (keys : List ℕ) : Type 0 where
+-- each row passes, and is in the range of the source
+pub record AreGathered (v : SourceView) (told : Option (List ℕ)) (lo hi : ℕ) (listed : List Bool) (keys : List ℕ) : Type 0 where
   pub rows : List Post
-  pub are : keys ≡ map (key_of i.weights) rows
-  pub packed : All (IsPacked i.weights) rows
-  pub within : All (IsWithin i.docs (length i.words)) rows
+  pub are : keys ≡ map (key_of v.index.weights) rows
+  pub packed : All (IsPacked v.index.weights) rows
+  pub within : All (IsWithin v.docs (length v.words)) rows
   pub passed : All (λ p. is_chosen lo hi listed p ≡ true) rows
-  pub stood : WhereStood told i (λ b. AreAlike (stock_of b) lo hi listed rows)
+  pub stood : WhereStood told v.index (λ b. AreAlike (v.stock b) lo hi listed rows)
 
 -- ---- a post and its number
 front : (m r : ℕ) → r < 4 → (m * 4 + r) / 4 ≡ m
@@ -340,47 +343,63 @@ has_room : (w : Weights) (facet : Bool) (r : Post) → is_scored w facet r ≡ t
 has_room w true r h = record { pos = grind (arith, nat_tests); score = grind (arith, nat_tests) }
 has_room w false r h = record { pos = grind (arith, nat_tests); score = grind (arith, nat_tests) }
 
--- posts in the range of an index have room, and its weights
-pub packed_posts : (i : IndexView) → IsIndex i → (read : List Post) → All (IsRanged i) read → All (IsPacked i.weights) read
-packed_posts i is read ranged =
+-- posts in the range of a source have room, and its weights
+pub packed_posts : (v : SourceView) → IsSource v → (read : List Post) → All (IsRanged (seen v)) read → All (IsPacked v.index.weights) read
+packed_posts v is read ranged =
     let docs = is.few_docs in
     let words = is.few_words in
     λ j e l.
     let p = ranged j e l in
     let doc = p.doc in
     let word = p.word in
-    let room = has_room i.weights p.facet (get_or read j e) p.scored in
+    let room = has_room v.index.weights p.facet (get_or read j e) p.scored in
     record { doc = omega (arith, doc, docs); pos = room.pos; word = omega (arith, word, words); score = room.score }
 
-pub within_posts : (i : IndexView) → IsIndex i → (read : List Post) → All (IsRanged i) read → All (IsWithin i.docs (length i.words)) read
-within_posts i is read ranged = λ j e l.
+pub within_posts : (v : SourceView) → IsSource v → (read : List Post) → All (IsRanged (seen v)) read → All (IsWithin v.docs (length v.words)) read
+within_posts v is read ranged = λ j e l.
     let p = ranged j e l in
-    let score = score_fits i.weights is.weights p.facet (get_or read j e) p.scored in
+    let score = score_fits v.index.weights is.index.weights p.facet (get_or read j e) p.scored in
     record { doc = p.doc; word = p.word; score_from = score.0; score_to = score.1 }
 
-pub no_keys : (i : IndexView) (told : Option (List ℕ)) (first : ℕ) (t : Post → Bool) (keys : List ℕ) → keys ≡ [] → HasKeys i told first first t keys
-no_keys i told first t keys none = record {
+held_ranged : (v : SourceView) → IsSource v → All (IsRanged (seen v)) v.held
+held_ranged v is = All-weaker (IsIn v) (IsRanged (seen v)) (λ p h. h.ranged) v.held is.held
+
+-- and so have those in memory
+pub held_packed : (v : SourceView) → IsSource v → (held : List Post) → held ≡ v.held → All (IsPacked v.index.weights) held
+held_packed v is held same = subst (All (IsPacked v.index.weights)) (sym same) (packed_posts v is v.held (held_ranged v is))
+
+pub held_within : (v : SourceView) → IsSource v → (held : List Post) → held ≡ v.held → All (IsWithin v.docs (length v.words)) held
+held_within v is held same = subst (All (IsWithin v.docs (length v.words))) (sym same) (within_posts v is v.held (held_ranged v is))
+
+-- their documents are there
+pub held_known : (v : SourceView) → IsSource v → (held : List Post) → held ≡ v.held → {docs : ℕ} → docs ≡ v.docs → All (λ p. p.doc < docs) held
+held_known v is held same {docs} docs_are =
+    All-weaker (IsWithin v.docs (length v.words)) (λ p. p.doc < docs) (λ p h. let doc = h.doc in omega (arith, doc, docs_are)) held
+    (held_within v is held same)
+
+pub no_keys : (v : SourceView) (told : Option (List ℕ)) (first : ℕ) (t : Post → Bool) (keys : List ℕ) → keys ≡ [] → HasKeys v told first first t keys
+no_keys v told first t keys none = record {
   rows = [];
   are = none;
-  packed = All-nil (IsPacked i.weights);
-  within = All-nil (IsWithin i.docs (length i.words));
+  packed = All-nil (IsPacked v.index.weights);
+  within = All-nil (IsWithin v.docs (length v.words));
   passed = All-nil (λ p. t p ≡ true);
-  run = λ b is stands. (let e : 0 ≡ first - first = omega arith in ap (λ n. flat_map (filter t) (take n (drop first (image_of b).blocks))) e);
+  run = λ b is stands. (let e : 0 ≡ first - first = omega arith in ap (λ n. flat_map (filter t) (take n (drop first (v.blocks b)))) e);
 }
 
 -- of a block more the posts that pass are added
-pub keys_more : (i : IndexView) (told : Option (List ℕ)) (first k : ℕ) (t : Post → Bool) (old new : List ℕ) (posts : List Post) → first ≤ k → k < length i.heads
-    → new ≡ old ++ map (key_of i.weights) posts → AreFrom i told k t posts
-    → HasKeys i told first k t old → HasKeys i told first (k + 1) t new
-keys_more i told first k t old new posts le lt added from h = record {
+pub keys_more : (v : SourceView) → IsSource v → (told : Option (List ℕ)) (first k : ℕ) (t : Post → Bool) (old new : List ℕ) (posts : List Post) → first ≤ k
+    → k < length v.index.heads → new ≡ old ++ map (key_of v.index.weights) posts → AreFrom v told k t posts
+    → HasKeys v told first k t old → HasKeys v told first (k + 1) t new
+keys_more v source told first k t old new posts le lt added from h = record {
   rows = h.rows ++ posts;
-  are = added ∙ ap (λ xs. xs ++ map (key_of i.weights) posts) h.are ∙ sym (map-append (key_of i.weights) h.rows posts);
-  packed = All-append (IsPacked i.weights) h.rows posts h.packed from.packed;
-  within = All-append (IsWithin i.docs (length i.words)) h.rows posts h.within from.within;
+  are = added ∙ ap (λ xs. xs ++ map (key_of v.index.weights) posts) h.are ∙ sym (map-append (key_of v.index.weights) h.rows posts);
+  packed = All-append (IsPacked v.index.weights) h.rows posts h.packed from.packed;
+  within = All-append (IsWithin v.docs (length v.words)) h.rows posts h.within from.within;
   passed = All-append (λ p. t p ≡ true) h.rows posts h.passed from.passed;
   run = λ b is stands.
-      let count = stood_count b i stands in
-      ap₂ (λ x y. x ++ y) (h.run b is stands) (from.read b is stands) ∙ sym (flat_more (filter t) (image_of b).blocks first k le (omega (arith, lt, count)));
+      let count = (source.told b stands).count in
+      ap₂ (λ x y. x ++ y) (h.run b is stands) (from.read b is stands) ∙ sym (flat_more (filter t) (v.blocks b) first k le (omega (arith, lt, count)));
 }
 
 pub in_rows : (P : Post → Type 0) (rows posts : List Post) → All (Contains rows) posts → All P rows → All P posts
@@ -399,37 +418,6 @@ ordered_passed lo hi listed rows posts passed o =
     All-weaker (λ p. is_chosen lo hi listed p ≡ true) (λ p. in_listed listed p ≡ true) (λ p h. listed_too (is_between lo hi p) (in_listed listed p) h) posts
     (in_rows (λ p. is_chosen lo hi listed p ≡ true) rows posts o.among passed)
 
--- each post of a run is one of the stock
-module _ (P : Post → Type 0) (t : Post → Bool) where
-  dropped : (n : ℕ) (bs : List (List Post)) → ((x : Post) → Contains (flat_map (λ block. block) bs) x → P x) → (x : Post)
-      → Contains (flat_map (λ block. block) (drop n bs)) x → P x
-  dropped zero bs h = h
-  dropped (suc n) [] h = h
-  dropped (suc n) (b ∷ bs) h = dropped n bs (λ x c. h x (Contains-append_right b (flat_map (λ block. block) bs) x c))
-
-  taken : (n : ℕ) (bs : List (List Post)) → ((x : Post) → Contains (flat_map (λ block. block) bs) x → P x) → All P (flat_map (filter t) (take n bs))
-  taken zero bs h = All-nil P
-  taken (suc n) [] h = All-nil P
-  taken (suc n) (b ∷ bs) h =
-      All-append P (filter t b) (flat_map (filter t) (take n bs))
-      (All-filter t P b (λ k d lt. h (get_or b k d) (Contains-append_left b (flat_map (λ block. block) bs) (get_or b k d) (Contains-get_or b k d lt))))
-      (taken n bs (λ x c. h x (Contains-append_right b (flat_map (λ block. block) bs) x c)))
-
-pub run_known : (b : List ℕ) (i : IndexView) → StandsFor b i → IsIndex i → (first last : ℕ) (t : Post → Bool)
-    → All (Contains (stock_of b).posts) (run_of (image_of b).blocks first last t)
-run_known b i s is first last t =
-    let P : Post → Type 0 = Contains (stock_of b).posts in
-    taken P t (last - first) (drop first (image_of b).blocks) (dropped P t first (image_of b).blocks (from_file b i s is))
-
-pub run_alike : (b : List ℕ) (i : IndexView) → StandsFor b i → IsIndex i → (first last lo hi : ℕ) (listed : List Bool) → AreMet i.heads lo hi first last
-    → AreAlike (stock_of b) lo hi listed (run_of (image_of b).blocks first last (is_chosen lo hi listed))
-run_alike b i stands is first last lo hi listed met = record {
-  among = run_known b i stands is first last (is_chosen lo hi listed);
-  alike = λ t. counted_alike b i stands is first last lo hi listed met t;
-  long = counted_long b i stands is first last lo hi listed met;
-  countable = countable b i stands is first last lo hi listed met.ordered met.within;
-}
-
 longer : (t : Post → Bool) (n m : ℕ) (xs : List (List Post)) → n ≤ m → length (flat_map (filter t) (take n xs)) ≤ length (flat_map (filter t) (take m xs))
 longer t zero m xs le = omega arith
 longer t (suc n) zero xs le = absurd (omega (arith, le))
@@ -444,45 +432,92 @@ longer t (suc n) (suc m) (x ∷ xs) le =
 pub run_longer : (t : Post → Bool) (blocks : List (List Post)) (first next last : ℕ) → next ≤ last → length (run_of blocks first next t) ≤ length (run_of blocks first last t)
 run_longer t blocks first next last le = longer t (next - first) (last - first) (drop first blocks) (omega (arith, le))
 
--- what is gathered of the blocks that hold such words
-pub gathered : (i : IndexView) → IsIndex i → (told : Option (List ℕ)) (first last lo hi : ℕ) (listed : List Bool) (keys : List ℕ)
-    → AreMet i.heads lo hi first last → HasKeys i told first last (is_chosen lo hi listed) keys → AreGathered i told lo hi listed keys
-gathered i is told first last lo hi listed keys met h = record {
-  rows = h.rows;
-  are = h.are;
-  packed = h.packed;
-  within = h.within;
-  passed = h.passed;
-  stood = λ b tells stands.
-      subst (AreAlike (stock_of b) lo hi listed) (sym (h.run b tells stands)) (run_alike b i stands is first last lo hi listed met);
+-- with those in memory
+pub chosen_are : (b : List ℕ) (v : SourceView) → StandsFor b v.index → IsSource v → (first last lo hi : ℕ) (listed : List Bool)
+    → AreMet v.index.heads (v.before lo) (v.before hi) first last
+    → AreAlike (v.stock b) lo hi listed (run_of (v.blocks b) first last (is_chosen lo hi listed) ++ filter (is_chosen lo hi listed) v.held)
+chosen_are b v stands is first last lo hi listed met = record {
+  among = chosen_among b v stands is first last lo hi listed met;
+  alike = λ t. chosen_alike b v stands is first last lo hi listed met t;
+  long = chosen_long b v stands is first last lo hi listed met;
+  countable = chosen_countable b v stands is first last lo hi listed met;
 }
 
--- where there is room for them, all blocks are gathered
-pub all_in_room : (i : IndexView) → IsIndex i → (told : Option (List ℕ)) (lo hi : ℕ) (listed : List Bool) (g : Gathered) (room : ℕ)
-    → HasGathered i told lo hi listed g → (g.next < g.last → (room < length g.keys.items) × (length g.keys.items < 2 ^ 64)) → length g.keys.items ≤ room
-    → AreGathered i told lo hi listed g.keys.items
-all_in_room i is told lo hi listed g room h whole few =
+-- what is gathered of some blocks, with the rows in memory behind it
+pub record HasMore (v : SourceView) (lo hi : ℕ) (listed : List Bool) (keys : List ℕ) : Type 0 where
+  pub rows : List Post
+  pub are : keys ≡ map (key_of v.index.weights) rows
+  pub packed : All (IsPacked v.index.weights) rows
+  pub within : All (IsWithin v.docs (length v.words)) rows
+  pub passed : All (λ p. is_chosen lo hi listed p ≡ true) rows
+
+pub with_held : (v : SourceView) → IsSource v → (told : Option (List ℕ)) (lo hi : ℕ) (listed : List Bool) (g : GatheredKeys) (held : List Post) (keys : List ℕ)
+    → HasGathered v told lo hi listed g → held ≡ v.held → keys ≡ g.keys.items ++ map (key_of v.index.weights) (filter (is_chosen lo hi listed) held)
+    → HasMore v lo hi listed keys
+with_held v is told lo hi listed g held keys has held_is added =
+    let w = v.index.weights in
+    let t = is_chosen lo hi listed in
+    let more = filter t held in
+    let h = has.keys in
+    record {
+      rows = h.rows ++ more;
+      are = added ∙ ap (λ xs. xs ++ map (key_of w) more) h.are ∙ sym (map-append (key_of w) h.rows more);
+      packed = All-append (IsPacked w) h.rows more h.packed (All-filter t (IsPacked w) held (held_packed v is held held_is));
+      within = All-append (IsWithin v.docs (length v.words)) h.rows more h.within
+          (All-filter t (IsWithin v.docs (length v.words)) held (held_within v is held held_is));
+      passed = All-append (λ p. t p ≡ true) h.rows more h.passed (filter_passes t held);
+    }
+
+-- the numbers of what is gathered of all blocks that hold such words, and of the rows in memory behind them
+pub gathered : (v : SourceView) → IsSource v → (told : Option (List ℕ)) (first last lo hi : ℕ) (listed : List Bool) (held : List Post) (old keys : List ℕ)
+    → AreMet v.index.heads (v.before lo) (v.before hi) first last → HasKeys v told first last (is_chosen lo hi listed) old
+    → held ≡ v.held → keys ≡ old ++ map (key_of v.index.weights) (filter (is_chosen lo hi listed) held) → AreGathered v told lo hi listed keys
+gathered v is told first last lo hi listed held old keys met h held_is added =
+    let w = v.index.weights in
+    let t = is_chosen lo hi listed in
+    let more = filter t held in
+    record {
+      rows = h.rows ++ more;
+      are = added ∙ ap (λ xs. xs ++ map (key_of w) more) h.are ∙ sym (map-append (key_of w) h.rows more);
+      packed = All-append (IsPacked w) h.rows more h.packed (All-filter t (IsPacked w) held (held_packed v is held held_is));
+      within = All-append (IsWithin v.docs (length v.words)) h.rows more h.within
+          (All-filter t (IsWithin v.docs (length v.words)) held (held_within v is held held_is));
+      passed = All-append (λ p. t p ≡ true) h.rows more h.passed (filter_passes t held);
+      stood = λ b tells stands.
+          subst (AreAlike (v.stock b) lo hi listed) (ap₂ (λ x y. x ++ filter t y) (sym (h.run b tells stands)) (sym held_is))
+          (chosen_are b v stands is first last lo hi listed met);
+    }
+
+-- where all blocks are gathered
+pub all_in_room : (v : SourceView) → IsSource v → (told : Option (List ℕ)) (lo hi : ℕ) (listed : List Bool) (g : GatheredKeys) (room : ℕ)
+    (held : List Post) (keys : List ℕ)
+    → HasGathered v told lo hi listed g → (g.next < g.last → (room < length g.keys.items) × (length g.keys.items < 2 ^ 64)) → length g.keys.items ≤ room
+    → held ≡ v.held → keys ≡ g.keys.items ++ map (key_of v.index.weights) (filter (is_chosen lo hi listed) held) → AreGathered v told lo hi listed keys
+all_in_room v is told lo hi listed g room held keys h whole few held_is added =
     let t = is_chosen lo hi listed in
     let le = h.upto in
     let end : g.next ≡ g.last = elim (cases_eq g.next g.last) [
       | inl same ↦ same
       | inr other ↦ absurd (let w = whole (omega (arith, le, other)) in omega (arith, w.0, few))
     ] in
-    gathered i is told g.first g.last lo hi listed g.keys.items h.met (subst (λ k. HasKeys i told g.first k t g.keys.items) end h.keys)
+    gathered v is told g.first g.last lo hi listed held g.keys.items keys h.met (subst (λ k. HasKeys v told g.first k t g.keys.items) end h.keys)
+    held_is added
 
 -- with room for all numbers there is
-pub all_gathered : (i : IndexView) → IsIndex i → (told : Option (List ℕ)) (lo hi : ℕ) (listed : List Bool) (g : Gathered) → HasGathered i told lo hi listed g
-    → (g.next < g.last → (2 ^ 64 - 1 < length g.keys.items) × (length g.keys.items < 2 ^ 64)) → AreGathered i told lo hi listed g.keys.items
-all_gathered i is told lo hi listed g h whole =
+pub all_gathered : (v : SourceView) → IsSource v → (told : Option (List ℕ)) (lo hi : ℕ) (listed : List Bool) (g : GatheredKeys) (held : List Post) (keys : List ℕ)
+    → HasGathered v told lo hi listed g → (g.next < g.last → (2 ^ 64 - 1 < length g.keys.items) × (length g.keys.items < 2 ^ 64))
+    → held ≡ v.held → keys ≡ g.keys.items ++ map (key_of v.index.weights) (filter (is_chosen lo hi listed) held) → AreGathered v told lo hi listed keys
+all_gathered v is told lo hi listed g held keys h whole held_is added =
     let le = h.upto in
-    all_in_room i is told lo hi listed g (length g.keys.items) h (λ more. (let w = whole more in absurd (omega (arith, w.0, w.1)))) (omega arith)
+    all_in_room v is told lo hi listed g (length g.keys.items) held keys h (λ more. (let w = whole more in absurd (omega (arith, w.0, w.1))))
+    (omega arith) held_is added
 
-pub ordered_told : (b : List ℕ) (i : IndexView) → StandsFor b i → IsIndex i → (lo hi : ℕ) (listed : List Bool) (rows posts : List Post)
-    → AreAlike (stock_of b) lo hi listed rows → IsOrdered rows posts
-    → posts ≡ filter (in_listed listed) (filter (is_between lo hi) (stock_of b).posts)
-ordered_told b i s is lo hi listed rows posts a o =
-    let all = (stock_of b).posts in
-    let up = (stocked b i s is).sorted in
+pub ordered_told : (b : List ℕ) (v : SourceView) → StandsFor b v.index → IsSource v → (lo hi : ℕ) (listed : List Bool) (rows posts : List Post)
+    → AreAlike (v.stock b) lo hi listed rows → IsOrdered rows posts
+    → posts ≡ filter (in_listed listed) (filter (is_between lo hi) (v.stock b).posts)
+ordered_told b v s is lo hi listed rows posts a o =
+    let all = (v.stock b).posts in
+    let up = (is.told b s).stocked.sorted in
     same_posts posts (filter (in_listed listed) (filter (is_between lo hi) all)) o.sorted
     (IsStrictlySortedBy-filter by_place (in_listed listed) (filter (is_between lo hi) all) (IsStrictlySortedBy-filter by_place (is_between lo hi) all up))
     (λ t. o.alike all up a.among t ∙ a.alike t)

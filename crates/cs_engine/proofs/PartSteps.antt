@@ -37,11 +37,11 @@ use Rattle.cs_model.specs.Answers.{PartRows, hits, in_doc, greatest_score}
 use Rattle.cs_model.specs.Answers as answers
 use Rattle.cs_model_kept.specs.Entries.{Entry, EntryOf, entry_at, hits_of, is_begun, is_hit, over, without}
 use Rattle.cs_model_kept.specs.Entries as kept
-use Rattle.cs_rank.specs.DocScores.{IsBase, best_row, greatest, of_doc, scores, with_base}
+use Rattle.cs_rank.specs.DocScores.{IsBase, best_row, greatest, of_doc, doc_scores, with_base}
 use Rattle.cs_engine.specs.IndexReading.{AreWithin, IsWithin}
 use Rattle.cs_engine.specs.Steps.{docs_after, posts_hits, posts_after, with_no_score, IsHitOf, IsBaseOf, EntryFits, IsStep, is_in_base}
 use Rattle.cs_model_index.specs.Numbered.{row_of, rows_at}
-use Rattle.cs_engine.specs.Stocked.{Stock, corpus_in, every, base_hits, docs_in}
+use Rattle.cs_engine.specs.Stocked.{Stock, corpus_in, every, base_hits, base_docs}
 use Rattle.cs_engine.proofs.FoundLemmas.{docs_rise, every_rises, scored_rise, found_small, greatest_small}
 use Rattle.cs_engine.proofs.HitsLemmas.{ds_rise, greatest_of, hits_excluded, hits_positive, kept_docs, own_docs}
 use Rattle.cs_engine.proofs.ListedLemmas.{keys_numbered, range_below}
@@ -86,7 +86,7 @@ nothing_fits i e is = subst (EntryFits i false 0) (sym is)
 
 -- the scores of rows in any order over a base in range
 pub scores_in : (i : IndexView) (n : ℕ) (b : Base) (rows : List Post) → 1 ≤ n → IsBaseOf i.docs (MAX_ROW_SCORE * (n - 1)) b
-    → All (IsWithin i.docs (length i.words)) rows → IsBaseOf i.docs (MAX_ROW_SCORE * n) (base.Listed (scores b rows))
+    → All (IsWithin i.docs (length i.words)) rows → IsBaseOf i.docs (MAX_ROW_SCORE * n) (base.Listed (doc_scores b rows))
 scores_in i n b rows some fits within = (
   scored_rise (λ d. with_base b (best_row rows d)) (λ d. refl) (docs_of rows) (listing-rises nat_cmp (map (λ p. p.doc) rows)),
   All-map (IsHitOf i.docs (MAX_ROW_SCORE * n)) (λ d. with_base b (best_row rows d)) (docs_of rows) (λ k d l.
@@ -107,7 +107,7 @@ rows_docs : (ws : List (List ℕ)) (ps : List Post) → map (λ r. r.doc) (rows_
 rows_docs ws [] = refl
 rows_docs ws (p ∷ ps) = ap (λ l. p.doc ∷ l) (rows_docs ws ps)
 
-over_told : (ws : List (List ℕ)) (b : Base) (posts : List Post) → scores b posts ≡ over b (rows_at ws posts)
+over_told : (ws : List (List ℕ)) (b : Base) (posts : List Post) → doc_scores b posts ≡ over b (rows_at ws posts)
 over_told ws base.All posts =
     ap (map (λ d. with_base base.All (best_row posts d))) (ap (members_in nat_cmp) (sym (rows_docs ws posts)))
     ∙ map_alike _ _ (answers.row_docs (rows_at ws posts))
@@ -138,7 +138,7 @@ module _ (s : Stock) (n : ℕ) (b : Base) (p : PartRows) (posts : List Post) (sa
       ∙ filter_alike (λ h. not (list_any (is_of h) posts)) (λ h. not (list_any (in_doc h.doc) p.rows)) outs
       (all_of _ (λ h. ap not (sym (any_through (row_of s.words) (in_doc h.doc) posts) ∙ ap (list_any (in_doc h.doc)) is)) outs)
 
-  kept_told : rows_at s.words (keep_docs posts (docs_in n b)) ≡ filter (is_hit outs) p.rows
+  kept_told : rows_at s.words (keep_docs posts (base_docs n b)) ≡ filter (is_hit outs) p.rows
   kept_told =
       ap (λ l. rows_at s.words (keep_docs posts (map (λ h. h.doc) l))) (listed_told s n b same)
       ∙ ap (rows_at s.words) (filter_alike (λ r. list_any (meet.is_of_doc r) (map (λ h. h.doc) outs)) (λ r. is_hit outs (row_of s.words r)) posts
@@ -160,10 +160,10 @@ module _ (s : Stock) (n : ℕ) (b : Base) (p : PartRows) (posts : List Post) (sa
       own base.All = refl
       own (base.Listed l) = refl
 
-in_hits : (docs bound : ℕ) (b : Base) (posts : List Post) → All (λ p. p.doc < docs) posts → All (λ p. is_in_base b p ≡ true) (keep_docs posts (docs_in docs b))
+in_hits : (docs bound : ℕ) (b : Base) (posts : List Post) → All (λ p. p.doc < docs) posts → All (λ p. is_in_base b p ≡ true) (keep_docs posts (base_docs docs b))
 in_hits docs bound base.All posts h = λ k d l. refl
 in_hits docs bound (base.Listed hs) posts h = λ k d l.
-    sym (any_through (λ (h : Scored). h.doc) (meet.is_of_doc (get_or (keep_docs posts (docs_in docs (base.Listed hs))) k d)) hs)
+    sym (any_through (λ (h : Scored). h.doc) (meet.is_of_doc (get_or (keep_docs posts (base_docs docs (base.Listed hs))) k d)) hs)
     ∙ filter_passes (λ r. list_any (meet.is_of_doc r) (map (λ h. h.doc) hs)) posts k d l
 
 pub step_within : (i : IndexView) (b : Base) (excluded : Bool) (posts : List Post) → AreWithin i posts → (n : ℕ) → IsBaseOf i.docs (MAX_ROW_SCORE * n) b
@@ -181,7 +181,7 @@ step_within i b true posts w n fits =
 step_within i b false posts w n fits =
     record {
       parts = λ e. omega arith;
-      rows = kept_within i (λ r. list_any (meet.is_of_doc r) (docs_in i.docs b)) posts w;
+      rows = kept_within i (λ r. list_any (meet.is_of_doc r) (base_docs i.docs b)) posts w;
       base = (let e : n ≡ n + 1 - 1 = omega arith in subst (λ m. IsBaseOf i.docs (MAX_ROW_SCORE * m) b) e fits);
       in_base = in_hits i.docs (MAX_ROW_SCORE * n) b posts (All-weaker (IsWithin i.docs (length i.words)) (λ p. p.doc < i.docs) (λ p h. h.doc) posts w.within);
     }
@@ -197,8 +197,8 @@ pub record AreHitsBehind (s : Stock) (hits : Base) (p : PartRows) (next : Base) 
 
 -- ---- hits without their scores
 module _ (s : Stock) (done : List PartRows) (p : PartRows) (posts : List Post) (is : rows_at s.words posts ≡ p.rows) (n : ℕ) (b : Base)
-    (lists : docs_in n b ≡ hits (corpus_in s) done) where
-  dropped_docs : map (λ h. h.doc) (drop_docs (base_hits n b) posts) ≡ filter (λ d. not (list_any (in_doc d) (rows_at s.words posts))) (docs_in n b)
+    (lists : base_docs n b ≡ hits (corpus_in s) done) where
+  dropped_docs : map (λ h. h.doc) (drop_docs (base_hits n b) posts) ≡ filter (λ d. not (list_any (in_doc d) (rows_at s.words posts))) (base_docs n b)
   dropped_docs =
       ap (map (λ (h : Scored). h.doc)) (filter_alike (λ h. not (list_any (is_of h) posts)) (λ h. not (list_any (in_doc h.doc) (rows_at s.words posts)))
       (base_hits n b) (all_of _ (λ h. ap not (sym (any_through (row_of s.words) (in_doc h.doc) posts))) (base_hits n b)))
@@ -228,6 +228,6 @@ left_base n b posts h =
 pub unscored_docs : (ds : List ℕ) → map (λ h. h.doc) (map with_no_score ds) ≡ ds
 unscored_docs ds = own_docs with_no_score (λ d. refl) ds
 
-pub base_sorted : (n : ℕ) (b : Base) → IsBase b → AreDocs (docs_in n b)
+pub base_sorted : (n : ℕ) (b : Base) → IsBase b → AreDocs (base_docs n b)
 base_sorted n base.All h = docs_rise (every n) (every_rises n)
 base_sorted n (base.Listed hs) h = docs_rise hs h.0

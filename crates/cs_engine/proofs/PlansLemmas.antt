@@ -25,7 +25,7 @@ use Rattle.cs_base.specs.declared.content.scores.TheConstants.{MAX_ROW_SCORE}
 use Rattle.cs_base.specs.declared.index.plan.Plan.{Plan}
 use Rattle.cs_base.specs.declared.index.plan.Plan.TheVariants.{Fresh}
 use Rattle.cs_base.proofs.ListsLemmas.{filter_alike}
-use Rattle.cs_file.specs.Indexes.{IndexView, IsIndex, StandsFor}
+use Rattle.cs_file.specs.Indexes.{IndexView, StandsFor}
 use Rattle.cs_model.specs.Answers.{begins, parts_of, rows_of_part}
 use Rattle.cs_model.specs.Keys.{keys_of, last_of}
 use Rattle.cs_model.specs.Refusals.{IsOfGrammar}
@@ -43,14 +43,14 @@ use Rattle.cs_engine.specs.Asking.{division}
 use Rattle.cs_engine.specs.Keeping.{FitsQuery, IsEntryOver, IsPlanned, entry_with}
 use Rattle.cs_engine.specs.Loose.{IsEntryByWords}
 use Rattle.cs_engine.specs.Plain.{AreWordsOf}
-use Rattle.cs_engine.specs.IndexReading.{AreWithin, IsWithin, stock_of}
+use Rattle.cs_engine.specs.IndexReading.{AreWithin, IsWithin}
+use Rattle.cs_engine.specs.Sources.{IsSource, SourceView, seen}
 use Rattle.cs_engine.specs.Steps.{AreFound, AreHitsOver, EntryFits, IsBaseOf, IsStep, end_positive, last_is_positive, most, posts_after, posts_hits}
 use Rattle.cs_engine.specs.Stocked.{corpus_in, is_between}
 use Rattle.cs_engine.proofs.EvaluationLemmas.{ends_read, entry_begins, entry_by_hits, entry_ends, entry_unrolled, hits_by, met_query-is, positive_more}
 use Rattle.cs_engine.proofs.FoundLemmas.{is_excluded}
 use Rattle.cs_engine.proofs.KeepingLemmas.{from_stock, in_stock}
 use Rattle.cs_engine.proofs.PartSteps.{base_in, base_weaker, hits_in, nothing_fits, step_told}
-use Rattle.cs_engine.proofs.StockLemmas.{docs_are}
 
 -- ---- the entry that is lent
 pub record Viewed (o : Option (List ℕ × EntryOf Post)) (e : EntryOf Post) : Type 0 where
@@ -151,27 +151,27 @@ module _ (q : Query) where
   first_parts firsts are = are ∙ sym first_are
 
   -- the entry of one part more
-  pub more_told : (b : List ℕ) (i : IndexView) → StandsFor b i → IsIndex i → (x : Part) (hits : Base) (now : EntryOf Post) → IsLast q x
-      → AreHitsOver b (before_last q) hits
-      → IsStep (stock_of b) hits (rows_of_part (corpus_in (stock_of b)) x) now → IsEntryOver b i q now
-  more_told b i stands is x hits now l over step =
-      let k = corpus_in (stock_of b) in
+  pub more_told : (b : List ℕ) (v : SourceView) → StandsFor b v.index → IsSource v → (x : Part) (hits : Base) (now : EntryOf Post) → IsLast q x
+      → AreHitsOver (v.stock b) (before_last q) hits
+      → IsStep (v.stock b) hits (rows_of_part (corpus_in (v.stock b)) x) now → IsEntryOver (corpus_in (v.stock b)) (seen v) q now
+  more_told b v stands is x hits now l over step =
+      let k = corpus_in (v.stock b) in
       let n = length ps - 1 in
       let some = l.some in
       let so_far : hits ≡ base_of k (map (rows_of_part k) (take n ps)) = over ∙ ap (base_of k) (parts_read k (before_last q))
       ∙ ap (λ xs. base_of k (map (rows_of_part k) xs)) first_are in
-      from_stock b i stands is q now (entry_ends (stock_of b) ps q (n + 1) now refl (omega (arith, some))
-      (entry_by_hits (stock_of b) ps n x (omega (arith, some)) l.at hits now so_far step))
+      from_stock b v stands is q now (entry_ends (v.stock b) ps q (n + 1) now refl (omega (arith, some))
+      (entry_by_hits (v.stock b) ps n x (omega (arith, some)) l.at hits now so_far step))
 
 -- the entry by the words that the last part asks for
-pub more_by_words : (q : Query) (b : List ℕ) (i : IndexView) → StandsFor b i → IsIndex i → (x : Part) (hits : Base) (lo hi : ℕ) → IsLast q x
-    → AreHitsOver b (before_last q) hits
-    → (out-Part x).excluded ≡ false → AreWordsOf i (met_of_part (division i) x) (λ k. (rows_of_part k x).rows) lo hi → IsEntryByWords b i q hits lo hi
-more_by_words q b i stands is x hits lo hi l over last asks =
-    let s = stock_of b in
+pub more_by_words : (q : Query) (b : List ℕ) (v : SourceView) → StandsFor b v.index → IsSource v → (x : Part) (hits : Base) (lo hi : ℕ) → IsLast q x
+    → AreHitsOver (v.stock b) (before_last q) hits
+    → (out-Part x).excluded ≡ false → AreWordsOf v (met_of_part (division v.index) x) (λ k. (rows_of_part k x).rows) lo hi → IsEntryByWords b v q hits lo hi
+more_by_words q b v stands is x hits lo hi l over last asks =
+    let s = v.stock b in
     let posts = filter (is_between lo hi) s.posts in
-    more_told q b i stands is x hits (posts_after i.docs hits false posts) l over
-    (step_told s i.docs hits (rows_of_part (corpus_in s) x) posts (docs_are b i stands is) (asks.posts b stands).is false (is_excluded s x ∙ last))
+    more_told q b v stands is x hits (posts_after v.docs hits false posts) l over
+    (step_told s v.docs hits (rows_of_part (corpus_in s) x) posts (is.told b stands).docs (asks.posts b stands).is false (is_excluded s x ∙ last))
 
 -- what is read for the last part and for those before it
 parts_met : (v : Division) (ps : List Part) → 1 ≤ length ps
@@ -202,24 +202,24 @@ module _ (q : Query) (parts : List Part) (are : parts ≡ (out-Query q).parts) (
       no_parts [] h = refl
       no_parts (x ∷ xs) h = absurd (omega (arith, h))
 
-  pub nothing_over : (b : List ℕ) (i : IndexView) → StandsFor b i → IsIndex i → IsEntryOver b i q e
-  nothing_over b i stands is = from_stock b i stands is q e
-      (entry_ends (stock_of b) parts q 0 e are (omega (arith, none)) (entry_begins (stock_of b) parts e is_nothing))
+  pub nothing_over : (b : List ℕ) (v : SourceView) → StandsFor b v.index → IsSource v → IsEntryOver (corpus_in (v.stock b)) (seen v) q e
+  nothing_over b v stands is = from_stock b v stands is q e
+      (entry_ends (v.stock b) parts q 0 e are (omega (arith, none)) (entry_begins (v.stock b) parts e is_nothing))
 
 -- ---- hits by the query's own entry
-module _ (i : IndexView) (q : Query) (e : EntryOf Post) (positive : Bool) (ends : positive ≡ last_is_positive q) (hits : Base)
+module _ (v : SourceView) (q : Query) (e : EntryOf Post) (positive : Bool) (ends : positive ≡ last_is_positive q) (hits : Base)
     (are : hits ≡ posts_hits positive e.base e.rows) where
-  pub hits_are_in : FitsQuery i q e → length (out-Query q).parts ≤ MAX_PARTS → IsBaseOf i.docs (MAX_ROW_SCORE * MAX_PARTS) hits
+  pub hits_are_in : FitsQuery (seen v) q e → length (out-Query q).parts ≤ MAX_PARTS → IsBaseOf v.docs (MAX_ROW_SCORE * MAX_PARTS) hits
   hits_are_in fits few =
       let n = length (out-Query q).parts in
-      base_weaker i.docs (MAX_ROW_SCORE * n) (MAX_ROW_SCORE * MAX_PARTS) hits (omega (arith, few))
-      (subst (IsBaseOf i.docs (MAX_ROW_SCORE * n)) (sym are) (hits_in i positive n e (subst (λ p. EntryFits i p n e) (sym ends) fits)))
+      base_weaker v.docs (MAX_ROW_SCORE * n) (MAX_ROW_SCORE * MAX_PARTS) hits (omega (arith, few))
+      (subst (IsBaseOf v.docs (MAX_ROW_SCORE * n)) (sym are) (hits_in (seen v) positive n e (subst (λ p. EntryFits (seen v) p n e) (sym ends) fits)))
 
-  pub found_by_entry : (b : List ℕ) → StandsFor b i → IsIndex i → IsEntryOver b i q e → AreFound (stock_of b) q hits e.rows
+  pub found_by_entry : (b : List ℕ) → StandsFor b v.index → IsSource v → IsEntryOver (corpus_in (v.stock b)) (seen v) q e → AreFound (v.stock b) q hits e.rows
   found_by_entry b stands is own =
-      let s = stock_of b in
+      let s = v.stock b in
       let k = corpus_in s in
-      let told = in_stock b i stands is q e own ∙ entry_unrolled k q in
+      let told = in_stock b v stands is q e own ∙ entry_unrolled k q in
       let from : positive ≡ kept.ends_positive (parts_of k q) = ends ∙ ends_read k (out-Query q).parts ∙ ap kept.ends_positive (sym (parts_read k q)) in
       record {
         base = are ∙ hits_by s (parts_of k q) positive e from told;

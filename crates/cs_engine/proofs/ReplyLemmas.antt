@@ -34,7 +34,7 @@ use Rattle.cs_tables.specs.declared.tables.Completion.{Completion as Numbered}
 use Rattle.cs_tables.specs.TableListings.{post_table}
 use Rattle.cs_model_index.specs.Numbered.{word_at, row_of, rows_at}
 use Rattle.cs_model_kept.specs.Entries.{scored_hits}
-use Rattle.cs_engine.specs.Stocked.{Stock, corpus_in, base_hits, docs_in, named_at, shown_at, named_rows, named_rows_in, facet_at, title_at, IsStocked}
+use Rattle.cs_engine.specs.Stocked.{Stock, corpus_in, base_hits, base_docs, named_at, shown_at, named_rows, named_rows_in, facet_at, title_at, IsStocked}
 use Rattle.cs_engine.proofs.VocabLemmas.{rows_rise}
 use Rattle.cs_engine.proofs.ListedLemmas.{get_numbered}
 use Rattle.cs_engine.proofs.HitsLemmas.{kept_pairs, listed_docs}
@@ -78,10 +78,10 @@ module _ (s : Stock) (kept : IsStocked s) where
 
   -- the rows of a facet in the documents of a base
   pub facet_kept : (b : Base) (name : List ℕ) (posts found : List Post) → rows_at s.words posts ≡ named_rows s name
-      → found ≡ keep_docs posts (docs_in (length s.titles) b) → rows_at s.words found ≡ named_rows_in s b name
+      → found ≡ keep_docs posts (base_docs (length s.titles) b) → rows_at s.words found ≡ named_rows_in s b name
   facet_kept b name posts found is kept_is =
-      ap (rows_at s.words) kept_is ∙ filter_through (row_of s.words) (λ r. is_listed (docs_in (length s.titles) b) r.doc) posts
-      ∙ ap (filter (λ r. is_listed (docs_in (length s.titles) b) r.doc)) is
+      ap (rows_at s.words) kept_is ∙ filter_through (row_of s.words) (λ r. is_listed (base_docs (length s.titles) b) r.doc) posts
+      ∙ ap (filter (λ r. is_listed (base_docs (length s.titles) b) r.doc)) is
 
 module _ (s : Stock) (kept : IsStocked s) (ps : List PartRows) (b : Base) (posts : List Post)
     (lists : base_hits (length s.titles) b ≡ scored_hits (corpus_in s) ps) where
@@ -105,7 +105,7 @@ module _ (s : Stock) (kept : IsStocked s) (ps : List PartRows) (b : Base) (posts
 
     facet_pairs : named_rows_in s b name ≡ pairs k (ps ++ facet_part k name ∷ [])
     facet_pairs =
-        sym (facet_kept s kept b name asked_posts (keep_docs asked_posts (docs_in (length s.titles) b)) asked_is refl)
+        sym (facet_kept s kept b name asked_posts (keep_docs asked_posts (base_docs (length s.titles) b)) asked_is refl)
         ∙ ap (λ ds. rows_at s.words (keep_docs asked_posts ds)) (listed_docs s ps (facet_part k name) asked_posts facet_is b lists)
         ∙ kept_pairs s ps (facet_part k name) asked_posts facet_is refl
 

@@ -207,13 +207,6 @@ module _ (b : List ℕ) (i : IndexView) (s : StandsFor b i) (is : IsIndex i) whe
       (sym (is_member-listed by_post by_post_total all x)
       ∙ list_any_at (eq_by_cmp by_post x) (stock_of b).posts k x l (ap (eq_by_cmp by_post x) at ∙ (Equal-is (by_post x x)).1 (tied_itself by_post_total x)))
 
-  -- and back
-  pub from_file : (x : Post) → Contains all x → Contains (stock_of b).posts x
-  from_file x (k, l, at) =
-      Contains-from_any (λ p q e. by_post_exact p q ((Equal-is (by_post p q)).0 e)) x (stock_of b).posts
-      (is_member-listed by_post by_post_total all x
-      ∙ list_any_at (eq_by_cmp by_post x) all k x l (ap (eq_by_cmp by_post x) at ∙ (Equal-is (by_post x x)).1 (tied_itself by_post_total x)))
-
   pub words_are : i.words ≡ (stock_of b).words
   words_are = (stood b i s).words
 

@@ -4,41 +4,34 @@
 --   united           what unites two lists of picked posts stands for the listing of their rows
 --   united_more      one more list goes into a listing
 --   linked_phrase, linked_near    links of rows are links of posts
-use Rattle.std.proofs.Common.{◌≡◌, ℕ, ◌+◌, ◌-◌, ◌<◌, ◌==◌, ◌&&◌, ◌||◌, Bool, true, false, true≢false, not, List, [], ◌∷◌, ◌++◌, length, map, take, drop}
-use Rattle.std.proofs.Common.{drop-cons, add-one, get_or, cond, append-nil, refl, sym, ◌∙◌, ap, subst, arith}
+use Rattle.std.proofs.Common.{◌≡◌, ℕ, ◌+◌, ◌-◌, ◌<◌, ◌==◌, ◌&&◌, ◌||◌, Bool, true, false, true≢false, not, List, [], ◌∷◌, ◌++◌, length, map, drop}
+use Rattle.std.proofs.Common.{drop-cons, add-one, get_or, cond, refl, sym, ◌∙◌, ap, subst, arith}
 use Rattle.std.specs.Prelude.{nat_lt, nat_le}
-use Rattle.std.specs.List.{All, AllByRecursion, Contains, list_any, flat_map}
-use Rattle.std.specs.List.Sorted.{IsPermutation, IsStrictlySortedBy}
-use Rattle.std.specs.Ordering.{nat_cmp, eq_by_cmp, ordering_then, is_lt}
+use Rattle.std.specs.List.{All, AllByRecursion, Contains, list_any}
+use Rattle.std.specs.Ordering.{nat_cmp, ordering_then, is_lt}
 use Rattle.std.specs.declared.cmp.Ordering.{Ordering}
 use Rattle.std.specs.declared.cmp.Ordering.TheVariants.{Less, Equal}
 use Rattle.std.proofs.lemmas.Bool.{and_parts}
 use Rattle.std.proofs.lemmas.Bool.Decides.{nat_tests}
-use Rattle.std.proofs.lemmas.Grind.{flat_map-append}
-use Rattle.std.proofs.lemmas.List.{map-append, get_or_default, take_more}
-use Rattle.std.proofs.lemmas.List.Elements.{All-filter, All-append, recursion_from_All, All-nil}
+use Rattle.std.proofs.lemmas.List.{get_or_default}
+use Rattle.std.proofs.lemmas.List.Elements.{recursion_from_All}
 use Rattle.std.proofs.lemmas.List.Folds.{list_any-append}
-use Rattle.std.proofs.lemmas.List.Sorted.{list_any-IsPermutation, All-permutation, IsPermutation-refl}
 use Rattle.std.proofs.lemmas.Map.Keys.{Less-from_sorted}
-use Rattle.cs_base.specs.content.Members.{members_in}
-use Rattle.cs_base.specs.content.Orders.{by_row, by_place, AreSorted}
+use Rattle.cs_base.specs.content.Orders.{by_place, AreSorted}
 use Rattle.cs_base.specs.declared.content.doc.Post.{Post}
 use Rattle.cs_base.specs.declared.content.doc.Row.{Row}
-use Rattle.cs_base.specs.declared.content.query.Chain.{Chain}
 use Rattle.cs_base.specs.declared.content.query.Linked.{Linked, out-Linked}
 use Rattle.cs_base.specs.declared.content.query.Link.{Link}
 use Rattle.cs_base.specs.declared.content.query.Link.TheVariants.{Phrase, Near}
-use Rattle.cs_base.proofs.MembersLemmas.{all_then, members_are, members-alike, is_member-listed, listed_itself}
-use Rattle.cs_base.proofs.OrdersLemmas.{by_row_total, by_row_exact}
+use Rattle.cs_base.proofs.MembersLemmas.{all_then}
 use Rattle.cs_base.proofs.ListsLemmas.{filter_through, filter_alike, any_through}
-use Rattle.cs_meet.specs.Filters.{IsUnion, shares_place, missing, follow, near, stands_behind, is_near}
-use Rattle.cs_model.specs.Answers.{LinkedRows, is_linked, linked_to, union_of, chained, rows_of_chain, rows_of_linked, rows_of_atom}
+use Rattle.cs_meet.specs.Filters.{shares_place, missing, follow, near, stands_behind, is_near}
+use Rattle.cs_model.specs.Answers.{LinkedRows, is_linked, linked_to, chained, rows_of_linked, rows_of_atom}
 use Rattle.cs_model_index.specs.Numbered.{row_of, rows_at}
 use Rattle.cs_engine.specs.Stocked.{Stock, corpus_in, linked_posts, IsKnown, IsStocked, IsPicked}
 use Rattle.cs_engine.proofs.AtomsLemmas.{picked_again}
 use Rattle.cs_engine.proofs.FoldsLemmas.{linked_rows-is}
 use Rattle.cs_vocab.proofs.RangesLemmas.{three_ways}
-use Rattle.cs_engine.proofs.VocabLemmas.{rows_rise}
 
 -- ---- one post at a place
 

@@ -2,7 +2,8 @@
 --
 --   well            the answer of what didn't fail
 --   nothing_read, reads_on      what no call leaves of a store, and one call behind another
---   block_fails, title_fails       a fetch that fails: the block or the title that breaks a rule is one of the index
+--   block_fails, read_fails       a fetch that fails: the block that breaks a rule is one of the index; and a call that only reads
+--   title_read      what is read of a title
 --   fails_behind, hands_on         a call that fails behind others; its fault goes on
 --   within_more, within_both    what is read is within more, and of two calls within the sum
 --   Walk            after some reads, each at most one: first before them, and k behind them
@@ -89,10 +90,18 @@ module _ {S L T U : Type 0} {tells : S → Option (List ℕ)} {lends : S → L} 
   block_fails l h =
       record { unchanged = h.unchanged; changed = block_change i (tells old) n e l h.changed; bytes = h.bytes; lent = h.lent; caused = h.caused }
 
-  pub title_fails : n < i.docs → LeavesStore {T = T} tells lends fails i (IsChangeOfTitle i (tells old) n) old now (Err e)
-      → OnlyReads {T = U} tells lends fails i old now (Err e)
-  title_fails l h =
-      record { unchanged = h.unchanged; changed = title_change i (tells old) n e l h.changed; bytes = h.bytes; lent = h.lent; caused = h.caused }
+-- a call that only reads
+pub read_fails : {S L T U : Type 0} {tells : S → Option (List ℕ)} {lends : S → L} {fails : S → ℕ} {i : IndexView} {old now : S} {e : FetchFault}
+    → OnlyReads {T = T} tells lends fails i old now (Err e) → OnlyReads {T = U} tells lends fails i old now (Err e)
+read_fails h = record { unchanged = h.unchanged; changed = h.changed; bytes = h.bytes; lent = h.lent; caused = h.caused }
+
+-- what is read of a title is read of the index
+pub title_read : {S L T : Type 0} {tells : S → Option (List ℕ)} {lends : S → L} {fails : S → ℕ} {i : IndexView} {old now : S} {d : ℕ}
+    (r : Result T FetchFault) → d < i.docs → LeavesStore tells lends fails i (IsChangeOfTitle i (tells old) d) old now r
+    → OnlyReads tells lends fails i old now r
+title_read (Ok x) l h = record { unchanged = h.unchanged; changed = tt; bytes = h.bytes; lent = h.lent; caused = h.caused }
+title_read {tells = tells} {i = i} {old = old} {d = d} (Err e) l h =
+    record { unchanged = h.unchanged; changed = title_change i (tells old) d e l h.changed; bytes = h.bytes; lent = h.lent; caused = h.caused }
 
 -- behind calls that didn't fail, the fault of the next one
 module _ {S L T U : Type 0} {tells : S → Option (List ℕ)} {lends : S → L} {fails : S → ℕ} {i : IndexView} {old now next : S} {x : T} {e : FetchFault} where

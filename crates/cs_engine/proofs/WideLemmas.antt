@@ -12,40 +12,40 @@ use Rattle.cs_base.specs.declared.content.doc.Base.{Base}
 use Rattle.cs_base.specs.declared.content.doc.Base.TheVariants as base
 use Rattle.cs_base.specs.declared.content.query.Part.{Part}
 use Rattle.cs_base.specs.declared.content.query.Query.{Query, out-Query}
-use Rattle.cs_file.specs.Indexes.{IndexView, IsIndex, StandsFor, is_met}
+use Rattle.cs_file.specs.Indexes.{StandsFor}
 use Rattle.cs_model_kept.specs.Due.{met_of_part, met_of_query}
 use Rattle.cs_model_kept.specs.Entries.{base_of}
 use Rattle.cs_model_kept.specs.KeptListLaws.{before_last}
 use Rattle.cs_model_kept.proofs.EntryLemmas.{parts_read}
 use Rattle.cs_model.specs.Answers.{rows_of_part}
-use Rattle.cs_model_index.specs.Sections.{file_corpus}
 use Rattle.cs_model_kept.specs.Entries.{entry_of}
 use Rattle.cs_model_kept.specs.KeptList.{kept_fresh}
 use Rattle.cs_base.specs.declared.index.plan.Kept.TheVariants as kept
 use Rattle.cs_tables.specs.WordCounts.{WordCountsView}
 use Rattle.cs_engine.specs.Asking.{division}
 use Rattle.cs_engine.specs.Blockwise.{HasFound}
-use Rattle.cs_engine.specs.IndexReading.{stock_of}
+use Rattle.cs_engine.specs.Sources.{IsSource, SourceView, met_in, seen}
 use Rattle.cs_engine.specs.Loose.{AreCountsFor, AreLastWords, IsEntryByWords}
 use Rattle.cs_engine.specs.Steps.{AreHitsOver, posts_after}
 use Rattle.cs_engine.specs.Stocked.{corpus_in, is_between}
 use Rattle.cs_engine.specs.Finding.{AsksAlone, AsksWide}
 use Rattle.cs_engine.proofs.BehindLemmas.{rows_are}
-use Rattle.cs_engine.proofs.CountingLemmas.{all_listed, everywhere}
+use Rattle.cs_engine.proofs.CountingLemmas.{everywhere}
 use Rattle.cs_engine.proofs.EvaluationLemmas.{met_query-is}
 use Rattle.cs_engine.proofs.LooseLemmas.{found_counts, large_entry}
+use Rattle.cs_engine.proofs.OverSources.{all_within}
 use Rattle.cs_engine.proofs.PlansLemmas.{IsLast, ends_last, first_parts, more_by_words}
 
 -- ---- what is read
-module _ (b : List ℕ) (i : IndexView) (stands : StandsFor b i) (is : IsIndex i) (lo hi : ℕ) where
-  pub whole_range : filter (is_between lo hi) (stock_of b).posts ≡ (posts_after i.docs base.All false (filter (is_between lo hi) (stock_of b).posts)).rows
+module _ (b : List ℕ) (v : SourceView) (stands : StandsFor b v.index) (is : IsSource v) (lo hi : ℕ) where
+  pub whole_range : filter (is_between lo hi) (v.stock b).posts ≡ (posts_after v.docs base.All false (filter (is_between lo hi) (v.stock b).posts)).rows
   whole_range =
-      let all = replicate i.docs true in
-      let lists = everywhere i.docs all refl in
-      sym (all_listed b i stands is lo hi all lists) ∙ rows_are b i stands is lo hi all base.All lists
+      let all = replicate v.docs true in
+      let lists = everywhere v.docs all refl in
+      sym (all_within b v stands is lo hi all lists) ∙ rows_are b v stands is lo hi all base.All lists
 
 -- ---- what is asked
-module _ (i : IndexView) (q : Query) (lo hi : ℕ) (asks : AsksWide i q lo hi) where
+module _ (v : SourceView) (q : Query) (lo hi : ℕ) (asks : AsksWide v q lo hi) where
   abbrev ps : List Part
   ps = (out-Query q).parts
 
@@ -55,7 +55,7 @@ module _ (i : IndexView) (q : Query) (lo hi : ℕ) (asks : AsksWide i q lo hi) w
   last : IsLast q asks.part
   last = record { some = omega (arith, one); at = sym (ap (λ (xs : List Part). get_or xs (length xs - 1) asks.part) asks.alone) }
 
-  pub by_range : AreLastWords i q base.All lo hi
+  pub by_range : AreLastWords (seen v) q base.All lo hi
   by_range = record {
     some = omega (arith, one);
     positive = ends_last q asks.part last ∙ ap not asks.positive;
@@ -64,37 +64,37 @@ module _ (i : IndexView) (q : Query) (lo hi : ℕ) (asks : AsksWide i q lo hi) w
     base = tt;
   }
 
-  module _ (b : List ℕ) (stands : StandsFor b i) (is : IsIndex i) where
-    none_before : AreHitsOver b (before_last q) base.All
+  module _ (b : List ℕ) (stands : StandsFor b v.index) (is : IsSource v) where
+    none_before : AreHitsOver (v.stock b) (before_last q) base.All
     none_before =
-        let k = corpus_in (stock_of b) in
+        let k = corpus_in (v.stock b) in
         let none : [] ≡ (out-Query (before_last q)).parts = first_parts q [] (sym (ap (λ (xs : List Part). take (length xs - 1) xs) asks.alone)) in
         sym (ap (base_of k) (parts_read k (before_last q)) ∙ ap (λ (xs : List Part). base_of k (map (rows_of_part k) xs)) (sym none))
 
-    pub by_entry : IsEntryByWords b i q base.All lo hi
-    by_entry = more_by_words q b i stands is asks.part base.All lo hi last none_before asks.positive asks.words
+    pub by_entry : IsEntryByWords b v q base.All lo hi
+    by_entry = more_by_words q b v stands is asks.part base.All lo hi last none_before asks.positive asks.words
 
-    pub too_large : kept_fresh (entry_of (file_corpus b) q) ≡ kept.TooLarge
+    pub too_large : kept_fresh (entry_of (corpus_in (v.stock b)) q) ≡ kept.TooLarge
     too_large =
-        let all = replicate i.docs true in
-        let has = everywhere i.docs all refl in
+        let all = replicate v.docs true in
+        let has = everywhere v.docs all refl in
         let many = asks.many b stands in
-        large_entry i q base.All lo hi by_range all has b stands is by_entry (filter (is_between lo hi) (stock_of b).posts)
-        (sym (all_listed b i stands is lo hi all has)) (omega (arith, many))
+        large_entry v q base.All lo hi by_range all has b stands is by_entry (filter (is_between lo hi) (v.stock b).posts)
+        (sym (all_within b v stands is lo hi all has)) (omega (arith, many))
 
-    pub range_counts : (hits : Base) (counts : WordCountsView) → HasFound base.All (filter (is_between lo hi) (stock_of b).posts) hits counts
-        → AreCountsFor i b q hits counts
+    pub range_counts : (hits : Base) (counts : WordCountsView) → HasFound base.All (filter (is_between lo hi) (v.stock b).posts) hits counts
+        → AreCountsFor v b q hits counts
     range_counts hits counts over =
-        found_counts i q base.All lo hi by_range b stands is by_entry hits counts
-        (subst (λ rows. HasFound base.All rows hits counts) (whole_range b i stands is lo hi) over)
+        found_counts v q base.All lo hi by_range b stands is by_entry hits counts
+        (subst (λ rows. HasFound base.All rows hits counts) (whole_range b v stands is lo hi) over)
 
 -- what is read for them is what is read for the query
-pub alone_met : (i : IndexView) (q : Query) {parts : List Part} {lo hi : ℕ} → parts ≡ (out-Query q).parts → AsksAlone i parts lo hi
-    → length (filter (is_met lo hi) i.heads) ≤ met_of_query (division i) q
-alone_met i q {parts} {lo} {hi} are asks =
-    let v = division i in
-    let one = sum_by-cons (λ n. n) (met_of_part v asks.part) [] in
-    let all : met_of_query v q ≡ met_of_part v asks.part + sum [] = met_query-is v q
-    ∙ ap (λ (ps : List Part). sum (map (met_of_part v) ps)) (sym are ∙ asks.alone) ∙ one in
+pub alone_met : (v : SourceView) (q : Query) {parts : List Part} {lo hi : ℕ} → parts ≡ (out-Query q).parts → AsksAlone v parts lo hi
+    → met_in v lo hi ≤ met_of_query (division v.index) q
+alone_met v q {parts} {lo} {hi} are asks =
+    let d = division v.index in
+    let one = sum_by-cons (λ n. n) (met_of_part d asks.part) [] in
+    let all : met_of_query d q ≡ met_of_part d asks.part + sum [] = met_query-is d q
+    ∙ ap (λ (ps : List Part). sum (map (met_of_part d) ps)) (sym are ∙ asks.alone) ∙ one in
     let few = asks.words.few in
     omega (arith, few, all)

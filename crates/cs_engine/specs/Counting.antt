@@ -7,19 +7,19 @@
 --                            behind the other
 --   AreMarked hits old new   the documents of hits are listed beside those that were
 --   AreListed docs b listed  which of so many documents a base lists
---   CountsFacet i lo hi rows b marks     rows of a facet's words are counted in the documents that a base lists
+--   CountsFacet lo hi rows b marks     rows of a facet's words are counted in the documents that a base lists
 use Rattle.std.specs.Prelude.{◌≡◌, ℕ, ◌-◌, ◌*◌, ◌<◌, ◌≤◌, ◌||◌, Bool, false, List, length, map, take, drop, flat_map, slice_index_or}
 use Rattle.cs_base.specs.declared.content.doc.Base.{Base}
 use Rattle.cs_base.specs.declared.content.doc.Post.{Post}
 use Rattle.cs_base.specs.declared.content.doc.Scored.{Scored}
-use Rattle.cs_base.specs.declared.content.limits.TheConstants.{MAX_PARTS}
+use Rattle.cs_base.specs.declared.content.limits.TheConstants.{MAX_DOCS, MAX_PARTS, MAX_WORDS}
 use Rattle.cs_base.specs.declared.content.scores.TheConstants.{MAX_ROW_SCORE}
-use Rattle.cs_file.specs.Indexes.{IndexView, IsIndex}
+use Rattle.cs_file.specs.Indexes.{IndexView}
 use Rattle.cs_model.specs.Answers.{is_listed}
 use Rattle.cs_tables.specs.WordCounts.{chosen}
 use Rattle.cs_engine.specs.IndexReading.{AreWithin}
 use Rattle.cs_engine.specs.Steps.{IsBaseOf}
-use Rattle.cs_engine.specs.Stocked.{docs_in}
+use Rattle.cs_engine.specs.Stocked.{base_docs}
 
 -- a document behind the last of the list isn't
 abbrev pub in_listed : List Bool → Post → Bool
@@ -37,13 +37,15 @@ AreMarked hits old new = (length new ≡ length old) × ((d : ℕ) → d < lengt
 -- All lists each of them
 pub record AreListed (docs : ℕ) (b : Base) (listed : List Bool) : Type 0 where
   pub long : length listed ≡ docs
-  pub each : (d : ℕ) → d < docs → slice_index_or listed d false ≡ is_listed (docs_in docs b) d
+  pub each : (d : ℕ) → d < docs → slice_index_or listed d false ≡ is_listed (base_docs docs b) d
 
--- whatever store the rows were read from
-pub record CountsFacet (i : IndexView) (lo hi : ℕ) (rows : List Post) (b : Base) (marks : List Bool) : Type 0 where
-  pub index : IsIndex i
+-- whatever store the rows were read from, and whatever else is known of the index
+pub record CountsFacet (lo hi : ℕ) (rows : List Post) (b : Base) (marks : List Bool) : Type 0 where
+  pub index : IndexView
+  pub few_docs : index.docs ≤ MAX_DOCS
+  pub few_words : length index.words ≤ MAX_WORDS
   pub ordered : lo ≤ hi
-  pub words : hi ≤ length i.words
-  pub within : AreWithin i rows
-  pub base : IsBaseOf i.docs (MAX_ROW_SCORE * MAX_PARTS) b
-  pub listed : AreListed i.docs b marks
+  pub words : hi ≤ length index.words
+  pub within : AreWithin index rows
+  pub base : IsBaseOf index.docs (MAX_ROW_SCORE * MAX_PARTS) b
+  pub listed : AreListed index.docs b marks

@@ -2,17 +2,18 @@
 --
 -- Source: this engine's own.
 --
---   HasGathered i told lo hi listed g     numbers of the rows of words from lo up to hi in listed documents, in the first of the blocks
+--   HasGathered v told lo hi listed g     numbers of the rows of words from lo up to hi in listed documents, in the first of the blocks
 --                          that hold such a word
 use Rattle.std.specs.Prelude.{ℕ, ◌≤◌, Bool, List, Option}
-use Rattle.cs_file.specs.Indexes.{AreMet, IndexView}
+use Rattle.cs_file.specs.Indexes.{AreMet}
 use Rattle.cs_tables.specs.WordCounts.{is_chosen}
 use Rattle.cs_engine.specs.Packing.{HasKeys}
-use Rattle.cs_engine.specs.declared.gathering.Gathered.{Gathered}
+use Rattle.cs_engine.specs.Sources.{SourceView}
+use Rattle.cs_engine.specs.declared.gathering.GatheredKeys.{GatheredKeys}
 
--- of none of the blocks, or of all
-pub record HasGathered (i : IndexView) (told : Option (List ℕ)) (lo hi : ℕ) (listed : List Bool) (g : Gathered) : Type 0 where
-  pub met : AreMet i.heads lo hi g.first g.last
+-- of none of the blocks, or of all; rows in memory aren't among them
+pub record HasGathered (v : SourceView) (told : Option (List ℕ)) (lo hi : ℕ) (listed : List Bool) (g : GatheredKeys) : Type 0 where
+  pub met : AreMet v.index.heads (v.before lo) (v.before hi) g.first g.last
   pub onward : g.first ≤ g.next
   pub upto : g.next ≤ g.last
-  pub keys : HasKeys i told g.first g.next (is_chosen lo hi listed) g.keys.items
+  pub keys : HasKeys v told g.first g.next (is_chosen lo hi listed) g.keys.items

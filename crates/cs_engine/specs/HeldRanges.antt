@@ -14,9 +14,9 @@
 --   OnlyGoes old new     each that is held was held before
 --   FitsHolding i w      over each store: rows, or hits and words, are in the range of the index
 --   FitsRange i r        what is held of a range is
---   IsHoldingOver b lo hi w   over the bytes b of an index it is what the words from lo up to hi have
---   IsHeldOver b r       what is held of a range is what its words have
---   AreHeldOver b rs     each of the held ones is
+--   IsHoldingOver s lo hi w   of a stock it is what the words from lo up to hi have
+--   IsHeldOver s r       what is held of a range is what its words have
+--   AreHeldOver s rs     each of the held ones is
 use Rattle.std.specs.Prelude.{◌≡◌, ◌⊎◌, ℕ, ◌+◌, ◌-◌, ◌*◌, ◌<◌, ◌≤◌, ◌==◌, ◌&&◌, Bool, true, not, List, [], ◌∷◌, ◌++◌, filter, length, take, slice_index_or}
 use Rattle.std.specs.List.{All, Contains}
 use Rattle.cs_base.specs.declared.content.doc.Base.TheVariants as base
@@ -25,9 +25,9 @@ use Rattle.cs_base.specs.declared.content.scores.TheConstants.{MAX_ROW_SCORE}
 use Rattle.cs_file.specs.Indexes.{IndexView}
 use Rattle.cs_model_kept.specs.Entries.{listed_count}
 use Rattle.cs_engine.specs.Blockwise.{HasFound}
-use Rattle.cs_engine.specs.IndexReading.{AreWithin, stock_of}
+use Rattle.cs_engine.specs.IndexReading.{AreWithin}
 use Rattle.cs_engine.specs.Steps.{IsBaseOf}
-use Rattle.cs_engine.specs.Stocked.{is_between}
+use Rattle.cs_engine.specs.Stocked.{Stock, is_between}
 use Rattle.cs_engine.specs.declared.held.HeldRange.{HeldRange}
 use Rattle.cs_engine.specs.declared.held.Holding.{Holding}
 use Rattle.cs_engine.specs.declared.held.Holding.TheVariants as holding
@@ -96,14 +96,14 @@ abbrev pub FitsRange : IndexView → HeldRange → Type 0
 FitsRange i r = FitsHolding i r.what
 
 -- the rows in order; the hits as of a query of these words alone
-abbrev pub IsHoldingOver : List ℕ → ℕ → ℕ → Holding → Type 0
-IsHoldingOver b lo hi (holding.Rows rows) = rows.posts ≡ filter (is_between lo hi) (stock_of b).posts
-IsHoldingOver b lo hi (holding.Counted hits counts) = HasFound base.All (filter (is_between lo hi) (stock_of b).posts) hits counts
+abbrev pub IsHoldingOver : Stock → ℕ → ℕ → Holding → Type 0
+IsHoldingOver s lo hi (holding.Rows rows) = rows.posts ≡ filter (is_between lo hi) s.posts
+IsHoldingOver s lo hi (holding.Counted hits counts) = HasFound base.All (filter (is_between lo hi) s.posts) hits counts
 
 -- by both ends of the range
-abbrev pub IsHeldOver : List ℕ → HeldRange → Type 0
-IsHeldOver b r = IsHoldingOver b r.low r.high r.what
+abbrev pub IsHeldOver : Stock → HeldRange → Type 0
+IsHeldOver s r = IsHoldingOver s r.low r.high r.what
 
 -- of no ranges it holds
-abbrev pub AreHeldOver : List ℕ → List HeldRange → Type 0
-AreHeldOver b held = All (IsHeldOver b) held
+abbrev pub AreHeldOver : Stock → List HeldRange → Type 0
+AreHeldOver s held = All (IsHeldOver s) held

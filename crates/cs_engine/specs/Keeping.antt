@@ -10,10 +10,11 @@
 --   IsKeptEntry i e           the key of e is that of a query of the grammar, whose entry fits the index i
 --   KeepsFitting i held       each entry does
 --   IsPlanned i held q keys p      p is the plan for the keys of a query by what is kept, each entry of which fits the index i
---   IsEntryOver b i q e       over the bytes b of an index an entry is that of the query q
---   HoldsGood b i held        over them each kept entry is that of its key's own query
---   AreGood b e               over the bytes b of its index an engine keeps under each key the entry of the key's own query, and holds of
---                             each range what the index has of it
+--   IsEntryOver k i q e       of the corpus k an entry is that of the query q
+--   HoldsGood k i held        of it each kept entry is that of its key's own query
+--   AreGoodFor k s e          of a corpus and a stock an engine keeps under each key the entry of the key's own query, and holds of each range
+--                             what the stock has of it
+--   AreGood b e               the same over the bytes b of its index
 --   note_plan q a             the plan by which a query is answered from what is kept
 --   became p o                what becomes of a query's own entry behind the plan p; of None, which was kept before or is too large
 --   entries_behind a keys p o         the entries that a reply by the plan p leaves, where o is the query's own entry, if it wasn't kept before
@@ -23,8 +24,9 @@
 --   IsLeftBehind q old new    what is kept after a refusal: the same entries, the used one maybe in front
 --   KeepsAnswers i q old r new       the one or the other
 --   wants_memory a            an answer is a refusal for want of memory
---   IsAfter b q old r new     what is kept after a reply, over the bytes of the index
---   AnswersRight b r old a new    the reply is that of the corpus, what is kept after it is so, and the engine is good
+--   IsAfterFor k q old r new  what is kept after a reply, of a corpus
+--   IsAfter b q old r new     the same over the bytes of the index
+--   AnswersRight k s r old a new    the reply is that of the corpus, what is kept after it is so, and the engine is good
 use Rattle.std.specs.Prelude.{◌≡◌, ◌⊎◌, ℕ, Bool, true, false, List, ◌∷◌, length, take, Option, Some, None, IfOk, Result, Ok, Err, if◌then◌else◌}
 use Rattle.std.specs.List.{All}
 use Rattle.cs_base.specs.declared.content.doc.Base.{Base}
@@ -38,6 +40,7 @@ use Rattle.cs_base.specs.declared.index.plan.Plan.TheVariants as plan
 use Rattle.cs_cache.specs.AnswerList.{AnswerList}
 use Rattle.cs_file.specs.Indexes.{IndexView}
 use Rattle.cs_model.specs.Canonical.{canonical}
+use Rattle.cs_model.specs.Corpus.{Corpus}
 use Rattle.cs_model.specs.Keys.{keys_of}
 use Rattle.cs_model.specs.Refusals.{IsOfGrammar}
 use Rattle.cs_model.specs.Replies.{Reply}
@@ -46,7 +49,9 @@ use Rattle.cs_model_index.specs.Sections.{file_corpus}
 use Rattle.cs_model_kept.specs.Entries.{EntryOf, entry_at, entry_of}
 use Rattle.cs_model_kept.specs.KeptList.{KeptOf, GoodFor, after, kept_at, kept_by, kept_fresh, plan_by, put_in_front, to_front, used_key, is_same}
 use Rattle.cs_engine.specs.HeldRanges.{AreHeldOver}
+use Rattle.cs_engine.specs.IndexReading.{stock_of}
 use Rattle.cs_engine.specs.Steps.{EntryFits, last_is_positive}
+use Rattle.cs_engine.specs.Stocked.{Stock}
 use Rattle.cs_file.specs.declared.fault.FetchFault.{FetchFault}
 use Rattle.cs_file.specs.declared.fault.FetchFault.TheVariants as fetches
 use Rattle.cs_engine.specs.declared.held.HeldRange.{HeldRange}
@@ -135,30 +140,38 @@ wants_memory (Err fetches.Memory) = true
 wants_memory (Err fetches.Read) = false
 wants_memory (Err (fetches.Changed rule at)) = false
 
--- ---- over the bytes of the index
+-- ---- of a corpus
 -- with its rows told by the words of the index
-abbrev pub IsEntryOver : List ℕ → IndexView → Query → EntryOf Post → Type 0
-IsEntryOver b i q e = entry_at i.words e ≡ entry_of (file_corpus b) q
+abbrev pub IsEntryOver : Corpus → IndexView → Query → EntryOf Post → Type 0
+IsEntryOver k i q e = entry_at i.words e ≡ entry_of k q
 
 -- no entries are good
-abbrev pub HoldsGood : List ℕ → IndexView → KeptOf (EntryOf Post) → Type 0
-HoldsGood b i held = GoodFor (file_corpus b) (kept_at i.words held)
+abbrev pub HoldsGood : Corpus → IndexView → KeptOf (EntryOf Post) → Type 0
+HoldsGood k i held = GoodFor k (kept_at i.words held)
+
+-- an engine that keeps and holds nothing is good
+pub record AreGoodFor (k : Corpus) (s : Stock) (e : EngineView) : Type 0 where
+  pub kept : HoldsGood k e.index e.answers.entries
+  pub held : AreHeldOver s e.held
 
 -- under each key stands the entry of the key's own query over the corpus of the bytes, and what is held of ranges of words is that of
--- the bytes; an engine that keeps and holds nothing is good
-pub record AreGood (b : List ℕ) (e : EngineView) : Type 0 where
-  pub kept : HoldsGood b e.index e.answers.entries
-  pub held : AreHeldOver b e.held
+-- the bytes
+abbrev pub AreGood : List ℕ → EngineView → Type 0
+AreGood b e = AreGoodFor (file_corpus b) (stock_of b) e
 
 -- the entries of the corpus are those that a query leaves, its own kept unless it is too large; nothing is said of a refusal
+abbrev pub IsAfterFor : Corpus → Query → EngineView → Result (Reply × Note) FetchFault → EngineView → Type 0
+IsAfterFor k q old (Ok r) new =
+    (r.1.kept ≡ kept_by r.1.plan (entry_of k q))
+    × (kept_at new.index.words new.answers.entries ≡ after (kept_at old.index.words old.answers.entries) old.answers.capacity q r.1.kept k)
+IsAfterFor k q old (Err e) new = Unit {0}
+
+-- the same of the corpus of the bytes
 abbrev pub IsAfter : List ℕ → Query → EngineView → Result (Reply × Note) FetchFault → EngineView → Type 0
-IsAfter b q old (Ok r) new =
-    (r.1.kept ≡ kept_by r.1.plan (entry_of (file_corpus b) q))
-    × (kept_at new.index.words new.answers.entries ≡ after (kept_at old.index.words old.answers.entries) old.answers.capacity q r.1.kept (file_corpus b))
-IsAfter b q old (Err e) new = Unit {0}
+IsAfter b q old r new = IsAfterFor (file_corpus b) q old r new
 
 -- the same of a refusal, which has no reply
-pub record AnswersRight (b : List ℕ) (r : Request) (old : EngineView) (a : Result (Reply × Note) FetchFault) (new : EngineView) : Type 0 where
-  pub reply : IfOk a (λ x. x.0 ≡ reply_of (file_corpus b) r)
-  pub good : AreGood b new
-  pub after : IsAfter b r.query old a new
+pub record AnswersRight (k : Corpus) (s : Stock) (r : Request) (old : EngineView) (a : Result (Reply × Note) FetchFault) (new : EngineView) : Type 0 where
+  pub reply : IfOk a (λ x. x.0 ≡ reply_of k r)
+  pub good : AreGoodFor k s new
+  pub after : IsAfterFor k r.query old a new

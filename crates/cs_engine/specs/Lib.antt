@@ -12,3 +12,4 @@ pub mod GatheredRows
 pub mod Spans
 pub mod HeldRanges
 pub mod Finding
+pub mod Sources

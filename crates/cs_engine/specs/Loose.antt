@@ -6,9 +6,9 @@
 --   HasBestScores seen best          a table by document of the rows that were seen; a row has a score, so 0 says that there is none
 --   hits_in d best           the documents of a table, from d on, that have a row, with their scores
 --   AreLastWords i q hits lo hi      the last part of a query is positive and asks for these words, and hits are in range as those before it
---   IsEntryByWords b i q hits lo hi  over the bytes of an index the own entry of a query is that of these hits and words
---   IsTableFor i b q cut hits t      over the bytes of an index a table is that of a query of these hits, cut
---   AreCountsFor i b q hits t        over them what is counted gives the table of a query of these hits
+--   IsEntryByWords b v q hits lo hi  over the bytes of its index a source's own entry of a query is that of these hits and words
+--   IsTableFor v b q cut hits t      over the bytes of its index a table is that of a query of these hits, cut
+--   AreCountsFor v b q hits t        over them what is counted gives the table of a query of these hits
 use Rattle.std.specs.Prelude.{◌≡◌, ℕ, ◌+◌, ◌-◌, ◌*◌, ◌≤◌, ◌<◌, true, false, nat_lt, List, [], ◌∷◌, length, map, filter, take, slice_index}
 use Rattle.std.specs.Prelude.{if◌then◌else◌}
 use Rattle.cs_base.specs.declared.content.doc.Base.{Base}
@@ -23,9 +23,10 @@ use Rattle.cs_tables.specs.WordCounts.{WordCountsView}
 use Rattle.cs_tables.specs.declared.tables.Table.{Table}
 use Rattle.cs_engine.specs.Blockwise.{CountsTable}
 use Rattle.cs_engine.specs.Keeping.{IsEntryOver}
-use Rattle.cs_engine.specs.IndexReading.{AreWithin, stock_of}
+use Rattle.cs_engine.specs.IndexReading.{AreWithin}
+use Rattle.cs_engine.specs.Sources.{SourceView, seen}
 use Rattle.cs_engine.specs.Steps.{AreFound, IsBaseOf, last_is_positive, posts_after}
-use Rattle.cs_engine.specs.Stocked.{is_between}
+use Rattle.cs_engine.specs.Stocked.{corpus_in, is_between}
 
 -- 0 where the document has no row
 abbrev pub best_of : List Post → ℕ → ℕ
@@ -49,20 +50,21 @@ pub record AreLastWords (i : IndexView) (q : Query) (hits : Base) (lo hi : ℕ) 
   pub base : IsBaseOf i.docs (MAX_ROW_SCORE * (length (out-Query q).parts - 1)) hits
 
 -- its base are the hits, and its rows are those of these words in them
-abbrev pub IsEntryByWords : List ℕ → IndexView → Query → Base → ℕ → ℕ → Type 0
-IsEntryByWords b i q hits lo hi = IsEntryOver b i q (posts_after i.docs hits false (filter (is_between lo hi) (stock_of b).posts))
+abbrev pub IsEntryByWords : List ℕ → SourceView → Query → Base → ℕ → ℕ → Type 0
+IsEntryByWords b v q hits lo hi =
+    IsEntryOver (corpus_in (v.stock b)) (seen v) q (posts_after v.docs hits false (filter (is_between lo hi) (v.stock b).posts))
 
 -- of posts that stand for the pairs, in order
-pub record IsTableFor (i : IndexView) (b : List ℕ) (q : Query) (cut : ℕ) (hits : Base) (t : Table) : Type 0 where
+pub record IsTableFor (v : SourceView) (b : List ℕ) (q : Query) (cut : ℕ) (hits : Base) (t : Table) : Type 0 where
   pub posts : List Post
-  pub found : AreFound (stock_of b) q hits posts
-  pub within : AreWithin i posts
+  pub found : AreFound (v.stock b) q hits posts
+  pub within : AreWithin (seen v) posts
   pub first : t.first ≡ take cut (post_table posts)
   pub total : t.total ≡ length (post_table posts)
 
 -- whatever the cut
-pub record AreCountsFor (i : IndexView) (b : List ℕ) (q : Query) (hits : Base) (t : WordCountsView) : Type 0 where
+pub record AreCountsFor (v : SourceView) (b : List ℕ) (q : Query) (hits : Base) (t : WordCountsView) : Type 0 where
   pub posts : List Post
-  pub found : AreFound (stock_of b) q hits posts
-  pub within : AreWithin i posts
+  pub found : AreFound (v.stock b) q hits posts
+  pub within : AreWithin (seen v) posts
   pub table : CountsTable posts t

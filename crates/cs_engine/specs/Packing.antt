@@ -16,8 +16,8 @@
 --   post_of_key w key        the post of a number
 --   apart last keys          the numbers whose place isn't that of the one before; last is the place before the first
 --   IsOrdered rows posts     the members of rows, in order, each place once
---   AreFrom i told k t posts       posts in the range of an index that pass a test; of a store that tells, those of a block
---   HasKeys i told first k t keys    numbers of posts in the range of an index that pass a test; of a store that tells, of a run of its
+--   AreFrom v told k t posts       posts in the range of a source that pass a test; of a store that tells, those of a block
+--   HasKeys v told first k t keys    numbers of posts in the range of a source that pass a test; of a store that tells, of a run of its
 --                            blocks
 use Rattle.std.specs.Prelude.{◌≡◌, ℕ, ◌+◌, ◌*◌, ◌/◌, ◌%◌, ◌<◌, ◌==◌, ◌||◌, Bool, true, List, [], ◌∷◌, length, map, filter, slice_index_or, Option}
 use Rattle.std.specs.Prelude.{if◌then◌else◌}
@@ -26,9 +26,8 @@ use Rattle.cs_base.specs.content.Orders.{AreSorted}
 use Rattle.cs_base.specs.declared.content.doc.Post.{Post}
 use Rattle.cs_base.specs.declared.content.limits.TheConstants.{MAX_DOCS}
 use Rattle.cs_base.specs.declared.content.scores.Weights.{Weights}
-use Rattle.cs_file.specs.Indexes.{IndexView, block_posts}
-use Rattle.cs_model_index.specs.Sections.{image_of}
 use Rattle.cs_engine.specs.IndexReading.{IsWithin, WhereStood, run_of}
+use Rattle.cs_engine.specs.Sources.{SourceView}
 use Rattle.cs_engine.specs.declared.packing.TheConstants.{COLUMN_ROOM, POSITION_ROOM, WORD_ROOM}
 
 -- ---- columns
@@ -93,17 +92,17 @@ pub record IsOrdered (rows posts : List Post) : Type 0 where
   pub alike : (all : List Post) → AreSorted all → All (Contains all) rows → (t : Post → Bool) → list_any t posts ≡ list_any t rows
 
 -- none where no post of the block passes
-pub record AreFrom (i : IndexView) (told : Option (List ℕ)) (k : ℕ) (t : Post → Bool) (posts : List Post) : Type 0 where
-  pub packed : All (IsPacked i.weights) posts
-  pub within : All (IsWithin i.docs (length i.words)) posts
+pub record AreFrom (v : SourceView) (told : Option (List ℕ)) (k : ℕ) (t : Post → Bool) (posts : List Post) : Type 0 where
+  pub packed : All (IsPacked v.index.weights) posts
+  pub within : All (IsWithin v.docs (length v.words)) posts
   pub passed : All (λ p. t p ≡ true) posts
-  pub read : WhereStood told i (λ b. posts ≡ filter t (block_posts b k))
+  pub read : WhereStood told v.index (λ b. posts ≡ filter t (slice_index_or (v.blocks b) k []))
 
 -- none where first is k
-pub record HasKeys (i : IndexView) (told : Option (List ℕ)) (first k : ℕ) (t : Post → Bool) (keys : List ℕ) : Type 0 where
+pub record HasKeys (v : SourceView) (told : Option (List ℕ)) (first k : ℕ) (t : Post → Bool) (keys : List ℕ) : Type 0 where
   pub rows : List Post
-  pub are : keys ≡ map (key_of i.weights) rows
-  pub packed : All (IsPacked i.weights) rows
-  pub within : All (IsWithin i.docs (length i.words)) rows
+  pub are : keys ≡ map (key_of v.index.weights) rows
+  pub packed : All (IsPacked v.index.weights) rows
+  pub within : All (IsWithin v.docs (length v.words)) rows
   pub passed : All (λ p. t p ≡ true) rows
-  pub run : WhereStood told i (λ b. rows ≡ run_of (image_of b).blocks first k t)
+  pub run : WhereStood told v.index (λ b. rows ≡ run_of (v.blocks b) first k t)

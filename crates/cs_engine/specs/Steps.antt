@@ -15,7 +15,7 @@
 --   last_is_positive q              whether the last part of a query is positive
 --   AreFound s q hits posts         the hits of the query q, and posts that stand for its pairs
 --   IsStep s hits p e               e is the entry of a query of these hits and of the part p
---   AreHitsOver b q hits            over the bytes of an index the hits of the query q
+--   AreHitsOver s q hits            over a stock the hits of the query q
 use Rattle.std.specs.Prelude.{◌≡◌, ℕ, ◌-◌, ◌*◌, ◌≤◌, ◌<◌, Bool, true, false, not, ◌==◌, List, [], map, fold, if◌then◌else◌}
 use Rattle.std.specs.List.{All, list_any}
 use Rattle.cs_base.specs.content.Orders.{AreByDoc, docs_of}
@@ -31,19 +31,19 @@ use Rattle.cs_meet.specs.Filters.{keep_docs, drop_docs}
 use Rattle.cs_model.specs.Answers.{PartRows, pairs, parts_of}
 use Rattle.cs_model_kept.specs.Entries.{EntryOf, base_of, entry_at, entry_after, is_begun}
 use Rattle.cs_model_kept.specs.Entries as kept
-use Rattle.cs_rank.specs.DocScores.{scores}
-use Rattle.cs_engine.specs.IndexReading.{AreWithin, stock_of}
+use Rattle.cs_rank.specs.DocScores.{doc_scores}
+use Rattle.cs_engine.specs.IndexReading.{AreWithin}
 use Rattle.cs_model_index.specs.Numbered.{rows_at}
-use Rattle.cs_engine.specs.Stocked.{Stock, base_hits, docs_in, corpus_in}
+use Rattle.cs_engine.specs.Stocked.{Stock, base_hits, base_docs, corpus_in}
 
 -- its posts over its base where the last part is positive, and else the base
 abbrev pub posts_hits : Bool → Base → List Post → Base
-posts_hits positive b posts = if positive then base.Listed (scores b posts) else b
+posts_hits positive b posts = if positive then base.Listed (doc_scores b posts) else b
 
 -- an excluded part takes hits away and leaves no posts, and a positive one leaves its posts in the hits
 abbrev pub posts_after : ℕ → Base → Bool → List Post → EntryOf Post
 posts_after n hits excluded posts = if excluded then record { base = base.Listed (drop_docs (base_hits n hits) posts); rows = [] }
-    else record { base = hits; rows = keep_docs posts (docs_in n hits) }
+    else record { base = hits; rows = keep_docs posts (base_docs n hits) }
 
 -- as of a query without a positive part
 abbrev pub with_no_score : ℕ → Scored
@@ -51,7 +51,7 @@ with_no_score d = record { doc = d; score = 0 }
 
 -- those without a post where the part is excluded, and those with one where it isn't
 abbrev pub docs_after : ℕ → Base → Bool → List Post → List ℕ
-docs_after n hits excluded posts = if excluded then map (λ h. h.doc) (drop_docs (base_hits n hits) posts) else docs_of (keep_docs posts (docs_in n hits))
+docs_after n hits excluded posts = if excluded then map (λ h. h.doc) (drop_docs (base_hits n hits) posts) else docs_of (keep_docs posts (base_docs n hits))
 
 -- the document is below docs, and the score at most the bound
 pub record IsHitOf (docs bound : ℕ) (h : Scored) : Type 0 where
@@ -97,5 +97,5 @@ pub record AreFound (s : Stock) (q : Query) (hits : Base) (posts : List Post) : 
   pub rows : rows_at s.words posts ≡ pairs (corpus_in s) (parts_of (corpus_in s) q)
 
 -- with their scores; All of a query without a part
-abbrev pub AreHitsOver : List ℕ → Query → Base → Type 0
-AreHitsOver b q hits = hits ≡ base_of (corpus_in (stock_of b)) (parts_of (corpus_in (stock_of b)) q)
+abbrev pub AreHitsOver : Stock → Query → Base → Type 0
+AreHitsOver s q hits = hits ≡ base_of (corpus_in s) (parts_of (corpus_in s) q)

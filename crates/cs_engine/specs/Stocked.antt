@@ -13,7 +13,7 @@
 --   linked_posts link a b  the posts of b that are linked to a post of a
 --   every n                the documents from 0 up to n, each with the score 0
 --   base_hits n base       the documents that a base lists, of n documents, with their scores
---   docs_in n base         their numbers
+--   base_docs n base       their numbers
 --   named_at ws c          a completion with its word in place of the word's number
 --   shown_at ws c          it as it is shown
 --   title_at titles d      the title of document d; the empty text where there are fewer
@@ -108,8 +108,8 @@ base_hits n base.All = every n
 base_hits n (base.Listed hs) = hs
 
 -- in the order of the base
-abbrev pub docs_in : ℕ → Base → List ℕ
-docs_in n b = map (λ h. h.doc) (base_hits n b)
+abbrev pub base_docs : ℕ → Base → List ℕ
+base_docs n b = map (λ h. h.doc) (base_hits n b)
 
 -- ---- tables
 -- its count stays
@@ -126,7 +126,7 @@ title_at titles d = unwrap_or (map.get (by_number titles) d) []
 
 -- in order; none where no document of the base has the facet
 abbrev pub named_rows_in : Stock → Base → List ℕ → List Row
-named_rows_in s b n = filter (λ r. is_listed (docs_in (length s.titles) b) r.doc) (named_rows s n)
+named_rows_in s b n = filter (λ r. is_listed (base_docs (length s.titles) b) r.doc) (named_rows s n)
 
 -- a facet that is asked is shown, also with no word
 abbrev pub facet_at : Stock → Base → ℕ → List ℕ → FacetShown

@@ -1,48 +1,92 @@
 //! Answering a request: finding, showing, and what is kept and held behind it.
-ghost use Rattle.std.specs.Prelude.{◌≡◌, ◌≤◌, None, false, true, is_some, length, IfOk, MatchOption};
+ghost use Rattle.std.specs.Prelude.{◌≡◌, ◌≤◌, Err, None, [], false, true, is_some, length, IfOk, MatchOption};
 ghost use Rattle.std.specs.List.{All};
 ghost use Rattle.cs_base.specs.outside.Causes.{ReadsWithin};
-ghost use Rattle.cs_file.specs.Indexes.{HasAllBlocks};
+ghost use Rattle.cs_file.specs.declared.fault.FetchFault.TheVariants as fetches;
 ghost use Rattle.cs_model.specs.Parameters.{HoldsLimits};
 ghost use Rattle.cs_model_kept.specs.{Due.{due}, KeptList.{plan_by, is_same}};
 ghost use Rattle.cs_query.specs.RequestView.{asked};
-ghost use Rattle.cs_engine.specs.{Asking.{division, titles_asked}, HeldRanges.{FitsRange, HoldsMore}, IndexReading.{OnlyReads, WhereStood}};
+ghost use Rattle.cs_engine.specs.{Asking.{division, titles_asked}, HeldRanges.{FitsRange, HoldsMore, range_bytes}, IndexReading.{OnlyReads, WhereStood}};
+ghost use Rattle.cs_engine.specs.{Sources.{CanRead, seen}, Stocked.{corpus_in}};
 ghost use Rattle.cs_engine.specs.declared.held.Holding.TheVariants as holding;
-ghost use Rattle.cs_engine.specs.Keeping.{AnswersRight, AreGood, KeepsAnswers, KeepsFitting, became, engine_with, entries_behind, note_plan, wants_memory};
+ghost use Rattle.cs_engine.specs.declared.held.TheConstants.{MAX_HELD_BYTES};
+ghost use Rattle.cs_engine.specs.Keeping.{AnswersRight, AreGoodFor, KeepsAnswers, KeepsFitting, became, engine_with, entries_behind, note_plan, wants_memory};
 
 use crate::find::find_by;
 use crate::finding::{CountedWords, QueryOver};
 use crate::held::{HeldRange, Holder, Holding};
 use crate::note::Note;
 use crate::show::{RequestOver, show};
+use crate::source::Source;
 use cs_base::{Base, Kept, Keys, Plan, Store};
-use cs_cache::{Answers, Entry};
+use cs_cache::{Answers, KeptEntry};
 use cs_file::FetchFault;
 use cs_query::{Reply, keys};
 
-/// The reply to a request, and how it was answered. It goes on from what is kept and held; blocks are read where that doesn't serve.
-pub(crate) fn answered<S: Store>(
-    over: RequestOver<'_>,
+/// The reply to a request over a source, and how it was answered. It goes on from what is kept and held; blocks are read where that doesn't
+/// serve. What is kept and held must be of this source.
+///
+/// A failed read and a change of the file are told as such, and want of memory too; the same answers are kept then. Where memory is
+/// wanted, all that is held of ranges of words is given back.
+pub fn ask_over<I: Source, S: Store>(
+    over: RequestOver<'_, I>,
     store: &mut S,
     answers: &mut Answers,
     held: &mut Holder,
 ) -> Result<(Reply, Note), FetchFault>
     requires limits { HoldsLimits (asked over.request.now) }
-    requires fits { HasAllBlocks (S.bytes store.old) over.index.now }
-    requires kept { KeepsFitting over.index.now answers.old.entries }
-    requires held { All (FitsRange over.index.now) held.old }
+    requires opened { CanRead (S.bytes store.old) (I.view over.index.now) }
+    requires kept { KeepsFitting (seen (I.view over.index.now)) answers.old.entries }
+    requires held { All (FitsRange (seen (I.view over.index.now))) held.old }
 
-    ensures told { WhereStood (S.bytes store.old) over.entry.index.now
-        (λ b. AreGood b (engine_with over.entry.index.now answers.old held.old)
-        → AnswersRight b (asked over.entry.request.now) (engine_with over.entry.index.now answers.old held.old) result
-        (engine_with over.entry.index.now answers.new held.new)) }
+    ensures told { WhereStood (S.bytes store.old) (I.view over.entry.index.now).index
+        (λ b. (let s = (I.view over.entry.index.now).stock b in AreGoodFor (corpus_in s) s
+        (engine_with (seen (I.view over.entry.index.now)) answers.old held.old)
+        → AnswersRight (corpus_in s) s (asked over.entry.request.now) (engine_with (seen (I.view over.entry.index.now)) answers.old held.old) result
+        (engine_with (seen (I.view over.entry.index.now)) answers.new held.new))) }
     ensures few { IfOk result (λ r. length r.0.hits ≤ over.entry.request.now.hits) }
-    ensures keeps { KeepsAnswers over.entry.index.now over.entry.request.now.query answers.old result answers.new }
-    ensures kept { KeepsFitting over.entry.index.now answers.new.entries }
-    ensures held { All (FitsRange over.entry.index.now) held.new }
-    ensures store { OnlyReads S.bytes S.lent S.faults over.entry.index.now store.old store.new result }
+    ensures keeps { KeepsAnswers (seen (I.view over.entry.index.now)) over.entry.request.now.query answers.old result answers.new }
+    ensures kept { KeepsFitting (seen (I.view over.entry.index.now)) answers.new.entries }
+    ensures held { All (FitsRange (seen (I.view over.entry.index.now))) held.new }
+    ensures store { OnlyReads S.bytes S.lent S.faults (I.view over.entry.index.now).index store.old store.new result }
     ensures reads { ReadsWithin
-        (due (division over.entry.index.now) (asked over.entry.request.now) (note_plan over.entry.request.now.query answers.old)
+        (due (division (I.view over.entry.index.now).index) (asked over.entry.request.now) (note_plan over.entry.request.now.query answers.old)
+        (titles_asked (asked over.entry.request.now) result))
+        (S.reads store.old) (S.reads store.new) }
+    ensures bounded { range_bytes held.new ≤ MAX_HELD_BYTES }
+    ensures given { result ≡ Err fetches.Memory → held.new ≡ [] }
+{
+    let alloc = over.alloc;
+    let answer = noted_reply(over, store, answers, held);
+    let wanted = wants_memory(&answer);
+    held.give_back(alloc, wanted);
+    answer
+}
+
+// The same, with everything held also where memory is wanted.
+fn noted_reply<I: Source, S: Store>(
+    over: RequestOver<'_, I>,
+    store: &mut S,
+    answers: &mut Answers,
+    held: &mut Holder,
+) -> Result<(Reply, Note), FetchFault>
+    requires limits { HoldsLimits (asked over.request.now) }
+    requires opened { CanRead (S.bytes store.old) (I.view over.index.now) }
+    requires kept { KeepsFitting (seen (I.view over.index.now)) answers.old.entries }
+    requires held { All (FitsRange (seen (I.view over.index.now))) held.old }
+
+    ensures told { WhereStood (S.bytes store.old) (I.view over.entry.index.now).index
+        (λ b. (let s = (I.view over.entry.index.now).stock b in AreGoodFor (corpus_in s) s
+        (engine_with (seen (I.view over.entry.index.now)) answers.old held.old)
+        → AnswersRight (corpus_in s) s (asked over.entry.request.now) (engine_with (seen (I.view over.entry.index.now)) answers.old held.old) result
+        (engine_with (seen (I.view over.entry.index.now)) answers.new held.new))) }
+    ensures few { IfOk result (λ r. length r.0.hits ≤ over.entry.request.now.hits) }
+    ensures keeps { KeepsAnswers (seen (I.view over.entry.index.now)) over.entry.request.now.query answers.old result answers.new }
+    ensures kept { KeepsFitting (seen (I.view over.entry.index.now)) answers.new.entries }
+    ensures held { All (FitsRange (seen (I.view over.entry.index.now))) held.new }
+    ensures store { OnlyReads S.bytes S.lent S.faults (I.view over.entry.index.now).index store.old store.new result }
+    ensures reads { ReadsWithin
+        (due (division (I.view over.entry.index.now).index) (asked over.entry.request.now) (note_plan over.entry.request.now.query answers.old)
         (titles_asked (asked over.entry.request.now) result))
         (S.reads store.old) (S.reads store.new) }
 {
@@ -51,8 +95,6 @@ pub(crate) fn answered<S: Store>(
         index,
         request,
     } = over;
-    // the type of an index says what it keeps where a field of it is read
-    let _ = &index.docs;
     let query = &request.query;
     let keys = keys(alloc, query)?;
     let plan = answers.look(&keys);
@@ -83,7 +125,7 @@ fn hold_counted(held: &mut Holder, hits: Base, range: Option<CountedWords>)
 }
 
 // What becomes of the query's own entry, behind a reply by a plan. The entry that the plan used comes to the front before.
-fn put(answers: &mut Answers, keys: Keys, plan: Plan, entry: Option<Entry>) -> Kept
+fn put(answers: &mut Answers, keys: Keys, plan: Plan, entry: Option<KeptEntry>) -> Kept
     requires plan { plan ≡ plan_by answers.old.entries keys }
     requires own { is_same plan ≡ true → is_some entry ≡ false }
 
@@ -108,8 +150,8 @@ fn not_kept(plan: Plan) -> Kept
     }
 }
 
-/// Whether an answer is a refusal for want of memory.
-pub(crate) fn wants_memory(answer: &Result<(Reply, Note), FetchFault>) -> bool
+// Whether an answer is a refusal for want of memory.
+fn wants_memory(answer: &Result<(Reply, Note), FetchFault>) -> bool
     ensures { result ≡ wants_memory answer.now }
 {
     match answer {

@@ -4,13 +4,13 @@ ghost use Rattle.std.specs.{List.{All}, Vec.{vec_capacity, vec_len}};
 ghost use Rattle.cs_base.specs.declared.content.doc.Base.TheVariants as base;
 ghost use Rattle.cs_base.specs.{declared.content.doc.Post.{Post}, declared.content.scores.TheConstants.{MAX_ROW_SCORE}, content.Orders.{AreByDoc}};
 ghost use Rattle.cs_file.specs.CallAnswers.{AreScoredOf};
-ghost use Rattle.{cs_rank.specs.DocScores.{IsBase, scores, with_base}, cs_cols.specs.SpanPlaces.{IsSpan}};
+ghost use Rattle.{cs_rank.specs.DocScores.{IsBase, doc_scores, with_base}, cs_cols.specs.SpanPlaces.{IsSpan}};
 ghost use Rattle.cs_engine.specs.{Loose.{HasBestScores, hits_in}, Packing.{doc_of_key, post_of_key}, Spans.{AreHitsBetween, HasEntry, hit_at}, Steps.{IsBaseOf}};
 ghost use Rattle.cs_tables.specs.WordCounts.{is_chosen, is_of_listed};
 
-use crate::between::{SPAN, is_chosen};
-use crate::packing::post_of;
-use cs_base::{Base, Memory, Scored, Seq, Weights};
+use crate::between::{SPAN, are_chosen};
+use crate::packing::post_of_key;
+use cs_base::{Base, Memory, Post, Scored, Seq, Weights};
 use cs_file::Fetched;
 use cs_rank::add_base;
 use cs_tables::are_within;
@@ -48,7 +48,7 @@ fn scored_over(alloc: Global, base: &Base, found: Vec<Scored>) -> Result<Seq<Sco
 }
 
 /// A table of no rows.
-pub(crate) fn zeros(alloc: Global, docs: u32) -> Result<Vec<u8>, Memory>
+pub(crate) fn blank_table(alloc: Global, docs: u32) -> Result<Vec<u8>, Memory>
     ensures none { IfOk result (λ v. HasBestScores [] v.items) }
     ensures long { IfOk result (λ v. length v.items ≡ docs) }
 {
@@ -75,9 +75,37 @@ fn raise_all(best: &mut [u8], weights: Weights, keys: &[u64])
     ensures len { length best.new ≡ length best.old }
 {
     for key in keys {
-        let row = post_of(weights, *key);
+        let row = post_of_key(weights, *key);
         let at = row.doc as usize;
         best[at] = best[at].max(row.score);
+    }
+}
+
+/// Notes the scores of rows in memory: of those in listed documents whose word's number is `words.0` or more and below `words.1`.
+pub(crate) fn raise_held(best: &mut Vec<u8>, rows: &[Post], words: (u32, u32), listed: &[bool])
+    requires known { All (λ p. p.doc < length best.old.items) rows.now }
+    requires long { length listed.now ≡ length best.old.items }
+
+    ensures best { (seen : List Post) → HasBestScores seen best.old.items
+        → HasBestScores (seen ++ filter (is_chosen words.0 words.1 listed.now) rows.now) best.new.items }
+    ensures len { length best.new.items ≡ length best.old.items }
+{
+    raise_posts(best, rows, words, listed);
+}
+
+// The same.
+fn raise_posts(best: &mut [u8], rows: &[Post], words: (u32, u32), listed: &[bool])
+    requires known { All (λ p. p.doc < length best.old) rows.now }
+    requires long { length listed.now ≡ length best.old }
+
+    ensures best { (seen : List Post) → HasBestScores seen best.old
+        → HasBestScores (seen ++ filter (is_chosen words.0 words.1 listed.now) rows.now) best.new }
+    ensures len { length best.new ≡ length best.old }
+{
+    for row in rows {
+        let at = row.doc as usize;
+        let counts = are_chosen(row.doc, row.word, words.0, words.1, listed);
+        best[at] = best[at].max(entry_of(counts, row.score));
     }
 }
 
@@ -127,7 +155,7 @@ fn raise_chosen(
     }
     for i in 0..docs.len() {
         let at = docs[i] as usize;
-        let counts = is_chosen(docs[i], row_words[i], lo, hi, listed);
+        let counts = are_chosen(docs[i], row_words[i], lo, hi, listed);
         best[at] = best[at].max(entry_of(counts, scores[i]));
     }
 }

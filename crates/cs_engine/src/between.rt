@@ -64,7 +64,7 @@ pub(crate) fn is_in(word: u32, lo: u32, hi: u32) -> bool
 
 /// Whether a word's number is `lo` or more and below `hi`, and a document is listed.
 #[inline]
-pub(crate) fn is_chosen(doc: u32, word: u32, lo: u32, hi: u32, listed: &[bool]) -> bool
+pub(crate) fn are_chosen(doc: u32, word: u32, lo: u32, hi: u32, listed: &[bool]) -> bool
     requires { doc < length listed.now }
 
     ensures { result ≡ ((nat_le lo word && nat_lt word hi) && slice_index_or listed.now doc false) }

@@ -5,11 +5,14 @@ ghost use Rattle.cs_base.specs.{declared.content.limits.TheConstants.{MAX_PARTS}
 ghost use Rattle.cs_base.specs.outside.Causes.{ReadsWithin};
 ghost use Rattle.cs_file.specs.Indexes.{IsIndex};
 ghost use Rattle.cs_engine.specs.{Blockwise.{AreMany, HasFound, rows_within}, Counting.{AreListed}, GatheredRows.{HasGathered}};
-ghost use Rattle.cs_engine.specs.{IndexReading.{IsOpened, IsWordRange, OnlyReads, WhereStood, stock_of}, Steps.{IsBaseOf, posts_after}, Stocked.{is_between}};
+ghost use Rattle.cs_engine.specs.{IndexReading.{IsWordRange, OnlyReads, WhereStood}, Sources.{CanRead, seen, source_of}};
+ghost use Rattle.cs_engine.specs.{Steps.{IsBaseOf, posts_after}, Stocked.{is_between}};
 
-use crate::best::{raise_keys, raise_rows, scored_in, zeros};
+use crate::best::{blank_table, raise_held, raise_keys, raise_rows, scored_in};
+use crate::chosen::count_chosen;
 use crate::counting::count_keys;
-use crate::gathering::Gathered;
+use crate::gathering::GatheredKeys;
+use crate::source::Source;
 use cs_base::{Base, BlockHead, Store};
 use cs_file::{FetchFault, Fetched, Index};
 use cs_model_kept::MAX_ENTRY_SIZE;
@@ -21,7 +24,7 @@ pub(crate) fn are_many(index: &Index, words: (u32, u32)) -> bool
     requires words { IsWordRange index.now words.0 words.1 }
     requires index { IsIndex index.now }
 
-    ensures { result ≡ true → AreMany index.now words.0 words.1 }
+    ensures { result ≡ true → AreMany (source_of index.now) words.0 words.1 }
 {
     let (first, last) = index.blocks(words.0, words.1);
     let heads = index.heads.as_slice();
@@ -46,39 +49,42 @@ fn rows_within(head: &BlockHead, words: (u32, u32)) -> u64
 
 /// The documents of hits that have a row of these words, with their scores, and these words, counted in the rows of these documents. What
 /// was gathered of the first blocks isn't read again, and each other block that holds such a word is read once.
-pub(crate) fn found_behind<S: Store>(
+pub(crate) fn found_behind<I: Source, S: Store>(
     alloc: Global,
-    index: &Index,
+    index: &I,
     store: &mut S,
     hits: &Base,
     words: (u32, u32),
     listed: &[bool],
-    gathered: &Gathered,
+    gathered: &GatheredKeys,
 ) -> Result<(Base, WordCounts), FetchFault>
-    requires words { IsWordRange index.now words.0 words.1 }
-    requires base { IsBaseOf index.now.docs (MAX_ROW_SCORE * (MAX_PARTS - 1)) hits.now }
-    requires listed { AreListed index.now.docs hits.now listed.now }
-    requires gathered { HasGathered index.now (S.bytes store.old) words.0 words.1 listed.now gathered.now }
-    requires opened { IsOpened (S.bytes store.old) index.now }
+    requires words { IsWordRange (seen (I.view index.now)) words.0 words.1 }
+    requires base { IsBaseOf (I.view index.now).docs (MAX_ROW_SCORE * (MAX_PARTS - 1)) hits.now }
+    requires listed { AreListed (I.view index.now).docs hits.now listed.now }
+    requires gathered { HasGathered (I.view index.now) (S.bytes store.old) words.0 words.1 listed.now gathered.now }
+    requires opened { CanRead (S.bytes store.old) (I.view index.now) }
 
-    ensures told { WhereStood (S.bytes store.old) index.now
+    ensures told { WhereStood (S.bytes store.old) (I.view index.now).index
         (λ b. IfOk result (λ found. HasFound hits.now
-        (posts_after index.now.docs hits.now false (filter (is_between words.0 words.1) (stock_of b).posts)).rows found.0 found.1)) }
-    ensures base { IfOk result (λ found. IsBaseOf index.now.docs (MAX_ROW_SCORE * MAX_PARTS) found.0) }
+        (posts_after (I.view index.now).docs hits.now false (filter (is_between words.0 words.1) ((I.view index.now).stock b).posts)).rows found.0 found.1)) }
+    ensures base { IfOk result (λ found. IsBaseOf (I.view index.now).docs (MAX_ROW_SCORE * MAX_PARTS) found.0) }
     ensures words { IfOk result (λ found. found.1.high ≡ words.1) }
-    ensures store { OnlyReads S.bytes S.lent S.faults index.now store.old store.new result }
+    ensures store { OnlyReads S.bytes S.lent S.faults (I.view index.now).index store.old store.new result }
     ensures reads { ReadsWithin (gathered.now.last - gathered.now.next) (S.reads store.old) (S.reads store.new) }
 {
     let mut counts = WordCounts::new(alloc, words.0, words.1)?;
     count_keys(&mut counts, &gathered.keys);
-    let mut best = zeros(alloc, index.docs)?;
-    raise_keys(&mut best, index.weights, &gathered.keys);
+    let mut best = blank_table(alloc, index.docs())?;
+    raise_keys(&mut best, index.weights(), &gathered.keys);
     let mut block = Fetched::new(alloc);
     for k in gathered.next..gathered.last {
         index.fetch_scored(alloc, store, k, &mut block)?;
         counts.add_rows(&block.docs, &block.words, listed);
         raise_rows(&mut best, words, listed, &block);
     }
+    let held = index.held();
+    count_chosen(&mut counts, held, words, listed);
+    raise_held(&mut best, held, words, listed);
     let scored = scored_in(alloc, hits, &best)?;
     Ok((Base::Listed(scored), counts))
 }

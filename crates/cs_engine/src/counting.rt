@@ -9,7 +9,7 @@ ghost use Rattle.cs_tables.specs.{TableListings.{post_table}, WordCounts.{AreCou
 ghost use Rattle.cs_engine.specs.{Counting.{AreListed, AreMarked, in_listed}, Packing.{post_of_key, word_of_key}};
 ghost use Rattle.cs_engine.specs.{IndexReading.{IsOpened, IsWordRange, OnlyReads, WhereStood, stock_of}, Steps.{IsBaseOf}, Stocked.{is_between}};
 
-use crate::packing::{doc_of, word_of};
+use crate::packing::{doc_of_key, word_of};
 use cs_base::{Base, Memory, Scored, Store};
 use cs_file::{Fetched, Index};
 use cs_tables::{Table, WordCounts};
@@ -55,6 +55,6 @@ pub(crate) fn count_keys(counts: &mut WordCounts, keys: &[u64])
     ensures high { counts.new.high ≡ counts.old.high }
 {
     for key in keys {
-        counts.see(doc_of(*key), word_of(*key));
+        counts.see(doc_of_key(*key), word_of(*key));
     }
 }

@@ -13,9 +13,10 @@ ghost use Rattle.cs_query.specs.RequestView.{asked};
 ghost use Rattle.cs_engine.specs.{Asking.{IsChangeIn, division, titles_asked}, HeldRanges.{range_bytes}, declared.held.TheConstants.{MAX_HELD_BYTES}};
 ghost use Rattle.cs_engine.specs.Keeping.{AreGood, IsAfter, KeepsAnswers, note_plan};
 
-use crate::ask::{answered, wants_memory};
+use crate::ask::ask_over;
 use crate::held::Holder;
 use crate::note::Note;
+use crate::opened::index_is_source;
 use crate::show::RequestOver;
 use cs_base::Store;
 use cs_cache::Answers;
@@ -105,14 +106,12 @@ impl Engine {
         ensures bounded { range_bytes self.new.held ≤ MAX_HELD_BYTES }
         ensures given { result ≡ Err fetches.Memory → self.new.held ≡ [] }
     {
+        index_is_source(&self.index);
         let over = RequestOver {
             alloc,
             index: &self.index,
             request,
         };
-        let answer = answered(over, store, &mut self.answers, &mut self.held);
-        let wanted = wants_memory(&answer);
-        self.held.give_back(alloc, wanted);
-        answer
+        ask_over(over, store, &mut self.answers, &mut self.held)
     }
 }

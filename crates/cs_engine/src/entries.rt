@@ -4,28 +4,28 @@ ghost use Rattle.std.specs.List.{All};
 ghost use Rattle.cs_base.specs.declared.content.doc.Base.TheVariants as base;
 ghost use Rattle.cs_base.specs.content.Orders.{AreSorted};
 ghost use Rattle.cs_rank.specs.DocScores.{IsBase};
-ghost use Rattle.cs_engine.specs.{Steps.{posts_hits, posts_after, docs_after, with_no_score}, Stocked.{docs_in}};
+ghost use Rattle.cs_engine.specs.{Steps.{posts_hits, posts_after, docs_after, with_no_score}, Stocked.{base_docs}};
 
-use crate::hits::{all_docs, kept_in, numbers_of, without};
+use crate::hits::{all_docs, doc_numbers, hits_without, kept_in};
 use cs_base::{Base, Memory, Scored, Seq};
-use cs_cache::Entry;
+use cs_cache::KeptEntry;
 use cs_cols::Cols;
 use cs_meet::docs_of;
-use cs_rank::score;
+use cs_rank::doc_scores;
 use std::alloc::Global;
 
 /// The entry before the first part.
-pub(crate) fn nothing_kept(alloc: Global) -> Entry
+pub(crate) fn first_entry(alloc: Global) -> KeptEntry
     ensures { result ≡ record { base = base.All; rows = [] } }
 {
-    Entry {
+    KeptEntry {
         base: Base::All,
         rows: Cols::new(alloc),
     }
 }
 
 /// The hits of a query by its entry: its rows over its base where the last part is positive, and else the base.
-pub(crate) fn hits_of(
+pub(crate) fn posts_hits(
     alloc: Global,
     positive: bool,
     base: &Base,
@@ -37,15 +37,15 @@ pub(crate) fn hits_of(
     ensures { IfOk result (λ b. b ≡ posts_hits positive base.now rows.now.posts) }
 {
     if !positive {
-        let copied = copy_of(alloc, base)?;
+        let copied = base_copy(alloc, base)?;
         return Ok(copied);
     }
-    let scored = score(alloc, base, rows)?;
+    let scored = doc_scores(alloc, base, rows)?;
     Ok(Base::Listed(scored))
 }
 
 /// The same base once more.
-pub(crate) fn copy_of(alloc: Global, base: &Base) -> Result<Base, Memory>
+pub(crate) fn base_copy(alloc: Global, base: &Base) -> Result<Base, Memory>
     ensures { IfOk result (λ b. b ≡ base.now) }
 {
     match base {
@@ -58,13 +58,13 @@ pub(crate) fn copy_of(alloc: Global, base: &Base) -> Result<Base, Memory>
 }
 
 /// The entry of a query and one part more, by the query's hits and the part's rows.
-pub(crate) fn entry_after(
+pub(crate) fn posts_after(
     alloc: Global,
     docs: u32,
     hits: Base,
     excluded: bool,
     rows: Cols,
-) -> Result<Entry, Memory>
+) -> Result<KeptEntry, Memory>
     requires base { IsBase hits }
     requires rows_sorted { AreSorted rows.posts }
     requires known { All (λ p. p.doc < docs) rows.posts }
@@ -72,14 +72,14 @@ pub(crate) fn entry_after(
     ensures { IfOk result (λ e. e ≡ posts_after docs hits excluded rows.posts) }
 {
     if excluded {
-        let left = without(alloc, docs, &hits, &rows)?;
-        return Ok(Entry {
+        let left = hits_without(alloc, docs, &hits, &rows)?;
+        return Ok(KeptEntry {
             base: Base::Listed(left),
             rows: Cols::new(alloc),
         });
     }
     let kept = kept_in(alloc, docs, &hits, rows)?;
-    Ok(Entry {
+    Ok(KeptEntry {
         base: hits,
         rows: kept,
     })
@@ -87,16 +87,16 @@ pub(crate) fn entry_after(
 
 /// The numbers of the documents that a base lists.
 pub(crate) fn docs_of_base(alloc: Global, docs: u32, base: &Base) -> Result<Vec<u32>, Memory>
-    ensures { IfOk result (λ v. v.items ≡ docs_in docs base.now) }
+    ensures { IfOk result (λ v. v.items ≡ base_docs docs base.now) }
 {
     match base {
         Base::All => {
             let all = all_docs(alloc, docs)?;
-            let numbers = numbers_of(alloc, &all)?;
+            let numbers = doc_numbers(alloc, &all)?;
             Ok(numbers)
         }
         Base::Listed(hits) => {
-            let numbers = numbers_of(alloc, hits.as_slice())?;
+            let numbers = doc_numbers(alloc, hits.as_slice())?;
             Ok(numbers)
         }
     }
@@ -114,11 +114,11 @@ pub(crate) fn agreeing(
     requires rows_sorted { AreSorted rows.posts }
     requires known { All (λ p. p.doc < docs) rows.posts }
 
-    ensures docs { IfOk result (λ b. docs_in docs b ≡ docs_after docs hits.now excluded rows.posts) }
+    ensures docs { IfOk result (λ b. base_docs docs b ≡ docs_after docs hits.now excluded rows.posts) }
     ensures base { IfOk result IsBase }
 {
     if excluded {
-        let left = without(alloc, docs, hits, &rows)?;
+        let left = hits_without(alloc, docs, hits, &rows)?;
         return Ok(Base::Listed(left));
     }
     let kept = kept_in(alloc, docs, hits, rows)?;

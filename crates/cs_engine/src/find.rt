@@ -5,13 +5,15 @@ ghost use Rattle.cs_base.specs.outside.Causes.{ReadsWithin};
 ghost use Rattle.cs_model_kept.specs.{Due.{met_by, met_of_query}, KeptList.{is_same}};
 ghost use Rattle.cs_engine.specs.{Asking.{division}, Finding.{CanFind, FitsFound, IsFoundAnew, IsFoundOver}};
 ghost use Rattle.cs_engine.specs.{HeldRanges.{AreHeldOver, FitsRange, OnlyGoes}, IndexReading.{OnlyReads, WhereStood}, Keeping.{HoldsGood, IsPlanned}};
+ghost use Rattle.cs_engine.specs.{Sources.{seen}, Stocked.{corpus_in}};
 
-use crate::entries::nothing_kept;
-use crate::find_kept::{hits_before, narrowed};
+use crate::entries::first_entry;
+use crate::find_kept::{hits_before_last, narrowed};
 use crate::find_parts::find_last;
 use crate::find_range::{find_range, wide_words};
 use crate::finding::{QueryFound, QueryOver, found_in, found_with};
 use crate::held::Holder;
+use crate::source::Source;
 use crate::steps::hits_of_parts;
 use cs_base::{Keys, Plan, Store};
 use cs_cache::Answers;
@@ -19,25 +21,27 @@ use cs_file::FetchFault;
 
 /// What is found of a query by a plan of what is kept. Where nothing that is kept serves, and the query asks for a wide range of words
 /// alone, it is found by the range, which is taken out of what is held.
-pub(crate) fn find_by<S: Store>(
-    over: QueryOver<'_>,
+pub(crate) fn find_by<I: Source, S: Store>(
+    over: QueryOver<'_, I>,
     answers: &Answers,
     store: &mut S,
     keys: &Keys,
     plan: Plan,
     held: &mut Holder,
 ) -> Result<QueryFound, FetchFault>
-    requires planned { IsPlanned over.index.now answers.now.entries over.query.now keys.now plan }
-    requires held { All (FitsRange over.index.now) held.old }
-    requires over { CanFind (S.bytes store.old) over }
+    requires planned { IsPlanned (seen (I.view over.index.now)) answers.now.entries over.query.now keys.now plan }
+    requires held { All (FitsRange (seen (I.view over.index.now))) held.old }
+    requires over { CanFind (S.bytes store.old) (I.view over.index.now) over.query.now }
 
-    ensures told { WhereStood (S.bytes store.old) over.entry.index.now
-        (λ b. AreHeldOver b held.old → HoldsGood b over.entry.index.now answers.now.entries → IfOk result (IsFoundOver b over.entry plan)) }
-    ensures fits { IfOk result (FitsFound over.entry) }
+    ensures told { WhereStood (S.bytes store.old) (I.view over.entry.index.now).index
+        (λ b. AreHeldOver ((I.view over.entry.index.now).stock b) held.old → HoldsGood (corpus_in ((I.view over.entry.index.now).stock b))
+        (seen (I.view over.entry.index.now)) answers.now.entries
+        → IfOk result (IsFoundOver b (I.view over.entry.index.now) over.entry.query.now over.entry.cut plan)) }
+    ensures fits { IfOk result (FitsFound (seen (I.view over.entry.index.now)) over.entry.query.now) }
     ensures had { IfOk result (λ f. is_same plan ≡ true → is_some f.own ≡ false) }
     ensures held { OnlyGoes held.old held.new }
-    ensures store { OnlyReads S.bytes S.lent S.faults over.entry.index.now store.old store.new result }
-    ensures reads { ReadsWithin (met_by (division over.entry.index.now) over.entry.query.now plan) (S.reads store.old) (S.reads store.new) }
+    ensures store { OnlyReads S.bytes S.lent S.faults (I.view over.entry.index.now).index store.old store.new result }
+    ensures reads { ReadsWithin (met_by (division (I.view over.entry.index.now).index) over.entry.query.now plan) (S.reads store.old) (S.reads store.new) }
 {
     match plan {
         Plan::Same => {
@@ -58,7 +62,7 @@ pub(crate) fn find_by<S: Store>(
         }
         Plan::Extend => {
             let view = answers.view(keys, plan);
-            let hits = hits_before(over.alloc, over.query, view.base, view.rows)?;
+            let hits = hits_before_last(over.alloc, over.query, view.base, view.rows)?;
             let found = find_last(over, store, hits)?;
             Ok(found)
         }
@@ -70,23 +74,25 @@ pub(crate) fn find_by<S: Store>(
 }
 
 // What is found by all parts.
-fn find_fresh<S: Store>(
-    over: QueryOver<'_>,
+fn find_fresh<I: Source, S: Store>(
+    over: QueryOver<'_, I>,
     store: &mut S,
     held: &mut Holder,
 ) -> Result<QueryFound, FetchFault>
-    requires held { All (FitsRange over.index.now) held.old }
-    requires over { CanFind (S.bytes store.old) over }
+    requires held { All (FitsRange (seen (I.view over.index.now))) held.old }
+    requires over { CanFind (S.bytes store.old) (I.view over.index.now) over.query.now }
 
-    ensures told { WhereStood (S.bytes store.old) over.entry.index.now (λ b. AreHeldOver b held.old → IfOk result (IsFoundAnew b over.entry)) }
-    ensures fits { IfOk result (FitsFound over.entry) }
+    ensures told { WhereStood (S.bytes store.old) (I.view over.entry.index.now).index
+        (λ b. AreHeldOver ((I.view over.entry.index.now).stock b) held.old
+        → IfOk result (IsFoundAnew b (I.view over.entry.index.now) over.entry.query.now over.entry.cut)) }
+    ensures fits { IfOk result (FitsFound (seen (I.view over.entry.index.now)) over.entry.query.now) }
     ensures held { OnlyGoes held.old held.new }
-    ensures store { OnlyReads S.bytes S.lent S.faults over.entry.index.now store.old store.new result }
-    ensures reads { ReadsWithin (met_of_query (division over.entry.index.now) over.entry.query.now) (S.reads store.old) (S.reads store.new) }
+    ensures store { OnlyReads S.bytes S.lent S.faults (I.view over.entry.index.now).index store.old store.new result }
+    ensures reads { ReadsWithin (met_of_query (division (I.view over.entry.index.now).index) over.entry.query.now) (S.reads store.old) (S.reads store.new) }
 {
     let parts = over.query.parts.as_slice();
     if parts.is_empty() {
-        let entry = nothing_kept(over.alloc);
+        let entry = first_entry(over.alloc);
         let found = found_with(over, entry)?;
         return Ok(found);
     }

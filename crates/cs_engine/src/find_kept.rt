@@ -6,48 +6,48 @@ ghost use Rattle.cs_model.specs.{Answers.{begins}, Keys.{last_prefix}};
 ghost use Rattle.cs_model_index.specs.Numbered.{word_at};
 ghost use Rattle.cs_model_kept.specs.KeptListLaws.{before_last};
 ghost use Rattle.cs_rank.specs.DocScores.{IsBase};
-ghost use Rattle.cs_engine.specs.{IndexReading.{AreWithin}, Steps.{last_is_positive, posts_hits}};
+ghost use Rattle.cs_engine.specs.{IndexReading.{AreWithin}, Sources.{seen}, Steps.{last_is_positive, posts_hits}};
 
 use crate::between::posts_between;
-use crate::entries::{copy_of, hits_of};
+use crate::entries::{base_copy, posts_hits};
+use crate::source::Source;
 use crate::steps::end_positive;
 use cs_base::{Base, Memory, Query};
-use cs_cache::Entry;
+use cs_cache::KeptEntry;
 use cs_cols::Cols;
-use cs_file::Index;
 use cs_query::last_prefix;
 use std::alloc::Global;
 
 /// The entry of a query whose prefix is being typed, out of that of the query with a shorter prefix in its place: the rows whose
 /// word begins with the longer one, and the same base.
-pub(crate) fn narrowed(
+pub(crate) fn narrowed<I: Source>(
     alloc: Global,
-    index: &Index,
+    index: &I,
     query: &Query,
     base: &Base,
     rows: &Cols,
-) -> Result<Entry, Memory>
+) -> Result<KeptEntry, Memory>
     requires typed { IsSome (last_prefix query.now) }
-    requires within { AreWithin index.now rows.now.posts }
+    requires within { AreWithin (seen (I.view index.now)) rows.now.posts }
 
     ensures base { IfOk result (λ e. e.base ≡ base.now) }
     ensures rows { IfOk result (λ e. IfSome (last_prefix query.now)
-        (λ p. e.rows ≡ filter (λ post. begins p (word_at index.now.words post.word)) rows.now.posts)) }
+        (λ p. e.rows ≡ filter (λ post. begins p (word_at (I.view index.now).words post.word)) rows.now.posts)) }
 {
     let Some(prefix) = last_prefix(query) else {
         unreachable!()
     };
     let (lo, hi) = index.range(prefix.as_bytes());
-    let copied = copy_of(alloc, base)?;
+    let copied = base_copy(alloc, base)?;
     let found = posts_between(alloc, rows, lo, hi)?;
-    Ok(Entry {
+    Ok(KeptEntry {
         base: copied,
         rows: found,
     })
 }
 
 /// The hits of a query without its last part, by the entry of that query.
-pub(crate) fn hits_before(
+pub(crate) fn hits_before_last(
     alloc: Global,
     query: &Query,
     base: &Base,
@@ -61,5 +61,5 @@ pub(crate) fn hits_before(
 {
     let parts = query.parts.as_slice();
     let positive = end_positive(&parts[..parts.len() - 1]);
-    hits_of(alloc, positive, base, rows)
+    posts_hits(alloc, positive, base, rows)
 }

@@ -1,44 +1,47 @@
 //! Finding by the parts of a query, the last one by what it asks for. Where its own entry is too large, its rows are brought into no
 //! order.
-ghost use Rattle.std.specs.Prelude.{◌≡◌, ◌+◌, ◌-◌, ◌*◌, ◌≤◌, ◌<◌, filter, length, IfOk};
+ghost use Rattle.std.specs.Prelude.{◌≡◌, ◌+◌, ◌-◌, ◌*◌, ◌≤◌, ◌<◌, nat_lt, length, IfOk};
 ghost use Rattle.std.specs.List.{All};
 ghost use Rattle.cs_base.specs.declared.content.limits.TheConstants.{MAX_PARTS};
 ghost use Rattle.cs_base.specs.{outside.Causes.{ReadsWithin}, declared.content.scores.TheConstants.{MAX_ROW_SCORE}, declared.content.query.Query.{out-Query}};
-ghost use Rattle.cs_file.specs.Indexes.{is_met};
 ghost use Rattle.cs_model.specs.Keys.{last_of};
 ghost use Rattle.cs_model_kept.specs.{Due.{met_of_last}, KeptListLaws.{before_last}};
 ghost use Rattle.cs_engine.specs.{Asking.{division}, Counting.{AreListed}, Finding.{CanFind, FitsFound, IsFoundAnew}, GatheredRows.{HasGathered}};
-ghost use Rattle.cs_engine.specs.{IndexReading.{OnlyReads, WhereStood}, Loose.{AreLastWords, IsEntryByWords, IsTableFor}, Steps.{AreHitsOver, IsBaseOf}};
+ghost use Rattle.cs_engine.specs.{IndexReading.{OnlyReads, WhereStood}, Loose.{AreLastWords, IsEntryByWords, IsTableFor}};
+ghost use Rattle.cs_engine.specs.{Sources.{met_in, seen}, Steps.{AreHitsOver, IsBaseOf}};
 
 use crate::blockwise::found_behind;
+use crate::chosen::{many_chosen, pack_chosen};
 use crate::counting::listed_docs;
 use crate::finding::{QueryFound, QueryOver, found_with};
-use crate::gathering::{Gathered, gather};
-use crate::hits::size_of;
+use crate::gathering::{GatheredKeys, gather_keys};
+use crate::hits::listed_count;
 use crate::packing::ordered;
 use crate::plain::words_of_part;
-use crate::steps::extended;
+use crate::source::Source;
+use crate::steps::extended_entry;
 use cs_base::{Base, Store};
-use cs_cache::Entry;
+use cs_cache::KeptEntry;
 use cs_file::FetchFault;
 use cs_model_kept::MAX_ENTRY_SIZE;
 use cs_tables::Table;
 
 /// What is found of a query by the hits of its parts before the last, whose atoms are read.
-pub(crate) fn find_last<S: Store>(
-    over: QueryOver<'_>,
+pub(crate) fn find_last<I: Source, S: Store>(
+    over: QueryOver<'_, I>,
     store: &mut S,
     hits: Base,
 ) -> Result<QueryFound, FetchFault>
     requires some { 1 ≤ length (out-Query over.query.now).parts }
-    requires base { IsBaseOf over.index.now.docs (MAX_ROW_SCORE * (length (out-Query over.query.now).parts - 1)) hits }
-    requires over { CanFind (S.bytes store.old) over }
+    requires base { IsBaseOf (I.view over.index.now).docs (MAX_ROW_SCORE * (length (out-Query over.query.now).parts - 1)) hits }
+    requires over { CanFind (S.bytes store.old) (I.view over.index.now) over.query.now }
 
-    ensures told { WhereStood (S.bytes store.old) over.entry.index.now
-        (λ b. AreHitsOver b (before_last over.entry.query.now) hits → IfOk result (IsFoundAnew b over.entry)) }
-    ensures fits { IfOk result (FitsFound over.entry) }
-    ensures store { OnlyReads S.bytes S.lent S.faults over.entry.index.now store.old store.new result }
-    ensures reads { ReadsWithin (met_of_last (division over.entry.index.now) (last_of (out-Query over.entry.query.now).parts))
+    ensures told { WhereStood (S.bytes store.old) (I.view over.entry.index.now).index
+        (λ b. AreHitsOver ((I.view over.entry.index.now).stock b) (before_last over.entry.query.now) hits
+        → IfOk result (IsFoundAnew b (I.view over.entry.index.now) over.entry.query.now over.entry.cut)) }
+    ensures fits { IfOk result (FitsFound (seen (I.view over.entry.index.now)) over.entry.query.now) }
+    ensures store { OnlyReads S.bytes S.lent S.faults (I.view over.entry.index.now).index store.old store.new result }
+    ensures reads { ReadsWithin (met_of_last (division (I.view over.entry.index.now).index) (last_of (out-Query over.entry.query.now).parts))
         (S.reads store.old) (S.reads store.new) }
 {
     let parts = over.query.parts.as_slice();
@@ -48,33 +51,37 @@ pub(crate) fn find_last<S: Store>(
         let found = find_words(over, store, hits, words)?;
         return Ok(found);
     }
-    let entry = extended(over.alloc, over.index, store, hits, part)?;
+    let entry = extended_entry(over.alloc, over.index, store, hits, part)?;
     let found = found_with(over, entry)?;
     Ok(found)
 }
 
 // What is found of a query whose last part asks for these words, by the hits of the parts before it.
-fn find_words<S: Store>(
-    over: QueryOver<'_>,
+fn find_words<I: Source, S: Store>(
+    over: QueryOver<'_, I>,
     store: &mut S,
     hits: Base,
     words: (u32, u32),
 ) -> Result<QueryFound, FetchFault>
-    requires asks { AreLastWords over.index.now over.query.now hits words.0 words.1 }
-    requires over { CanFind (S.bytes store.old) over }
+    requires asks { AreLastWords (seen (I.view over.index.now)) over.query.now hits words.0 words.1 }
+    requires over { CanFind (S.bytes store.old) (I.view over.index.now) over.query.now }
 
-    ensures told { WhereStood (S.bytes store.old) over.entry.index.now
-        (λ b. IsEntryByWords b over.entry.index.now over.entry.query.now hits words.0 words.1 → IfOk result (IsFoundAnew b over.entry)) }
-    ensures fits { IfOk result (FitsFound over.entry) }
-    ensures store { OnlyReads S.bytes S.lent S.faults over.entry.index.now store.old store.new result }
-    ensures reads { ReadsWithin (length (filter (is_met words.0 words.1) over.entry.index.now.heads)) (S.reads store.old) (S.reads store.new) }
+    ensures told { WhereStood (S.bytes store.old) (I.view over.entry.index.now).index
+        (λ b. IsEntryByWords b (I.view over.entry.index.now) over.entry.query.now hits words.0 words.1
+        → IfOk result (IsFoundAnew b (I.view over.entry.index.now) over.entry.query.now over.entry.cut)) }
+    ensures fits { IfOk result (FitsFound (seen (I.view over.entry.index.now)) over.entry.query.now) }
+    ensures store { OnlyReads S.bytes S.lent S.faults (I.view over.entry.index.now).index store.old store.new result }
+    ensures reads { ReadsWithin (met_in (I.view over.entry.index.now) words.0 words.1) (S.reads store.old) (S.reads store.new) }
 {
     let QueryOver { alloc, index, .. } = over;
-    let listed = listed_docs(alloc, index.docs, &hits)?;
-    let room = MAX_ENTRY_SIZE.saturating_sub(size_of(&hits));
-    let gathered = gather(alloc, index, store, words, &listed, room)?;
-    if gathered.keys.len() > room {
-        let (hits, table) = find_behind(over, store, &hits, words, &listed, &gathered)?;
+    let weights = index.weights();
+    let listed = listed_docs(alloc, index.docs(), &hits)?;
+    let marks: &[bool] = &listed;
+    let room = MAX_ENTRY_SIZE.saturating_sub(listed_count(&hits));
+    let mut gathered = gather_keys(alloc, index, store, words, marks, room)?;
+    let held = index.held();
+    if are_more(gathered.keys.len(), many_chosen(held, words, marks), room) {
+        let (hits, table) = find_behind(over, store, &hits, words, marks, &gathered)?;
         return Ok(QueryFound {
             hits,
             table,
@@ -82,32 +89,41 @@ fn find_words<S: Store>(
             range: None,
         });
     }
-    let rows = ordered(alloc, index.weights, gathered.keys)?;
-    let found = found_with(over, Entry { base: hits, rows })?;
+    pack_chosen(weights, held, words, marks, &mut gathered.keys)?;
+    let rows = ordered(alloc, weights, gathered.keys)?;
+    let found = found_with(over, KeptEntry { base: hits, rows })?;
     Ok(found)
+}
+
+// Whether so many and so many are together more than there is room for.
+#[inline]
+fn are_more(some: usize, others: usize, room: usize) -> bool
+    ensures { result ≡ nat_lt room (some + others) }
+{
+    some as u128 + others as u128 > room as u128
 }
 
 // The hits and the table of a query whose last part asks for these words, by what was gathered of their first blocks, by the rest of the
 // blocks, and by the hits of the parts before it.
-fn find_behind<S: Store>(
-    over: QueryOver<'_>,
+fn find_behind<I: Source, S: Store>(
+    over: QueryOver<'_, I>,
     store: &mut S,
     hits: &Base,
     words: (u32, u32),
     listed: &[bool],
-    gathered: &Gathered,
+    gathered: &GatheredKeys,
 ) -> Result<(Base, Table), FetchFault>
-    requires asks { AreLastWords over.index.now over.query.now hits.now words.0 words.1 }
-    requires listed { AreListed over.index.now.docs hits.now listed.now }
-    requires gathered { HasGathered over.index.now (S.bytes store.old) words.0 words.1 listed.now gathered.now }
-    requires over { CanFind (S.bytes store.old) over }
+    requires asks { AreLastWords (seen (I.view over.index.now)) over.query.now hits.now words.0 words.1 }
+    requires listed { AreListed (I.view over.index.now).docs hits.now listed.now }
+    requires gathered { HasGathered (I.view over.index.now) (S.bytes store.old) words.0 words.1 listed.now gathered.now }
+    requires over { CanFind (S.bytes store.old) (I.view over.index.now) over.query.now }
 
-    ensures told { WhereStood (S.bytes store.old) over.entry.index.now
-        (λ b. IsEntryByWords b over.entry.index.now over.entry.query.now hits.now words.0 words.1
-        → IfOk result (λ f. IsTableFor over.entry.index.now b over.entry.query.now over.entry.cut f.0 f.1)) }
-    ensures base { IfOk result (λ f. IsBaseOf over.entry.index.now.docs (MAX_ROW_SCORE * MAX_PARTS) f.0) }
-    ensures table { IfOk result (λ f. All (λ w. w.word < length over.entry.index.now.words) f.1.first) }
-    ensures store { OnlyReads S.bytes S.lent S.faults over.entry.index.now store.old store.new result }
+    ensures told { WhereStood (S.bytes store.old) (I.view over.entry.index.now).index
+        (λ b. IsEntryByWords b (I.view over.entry.index.now) over.entry.query.now hits.now words.0 words.1
+        → IfOk result (λ f. IsTableFor (I.view over.entry.index.now) b over.entry.query.now over.entry.cut f.0 f.1)) }
+    ensures base { IfOk result (λ f. IsBaseOf (I.view over.entry.index.now).docs (MAX_ROW_SCORE * MAX_PARTS) f.0) }
+    ensures table { IfOk result (λ f. All (λ w. w.word < length (I.view over.entry.index.now).words) f.1.first) }
+    ensures store { OnlyReads S.bytes S.lent S.faults (I.view over.entry.index.now).index store.old store.new result }
     ensures reads { ReadsWithin (gathered.now.last - gathered.now.next) (S.reads store.old) (S.reads store.new) }
 {
     let QueryOver { alloc, index, .. } = over;

@@ -4,27 +4,27 @@ ghost use Rattle.std.specs.List.{All};
 ghost use Rattle.cs_base.specs.declared.content.doc.Base.TheVariants as base;
 ghost use Rattle.cs_base.specs.declared.content.{limits.TheConstants.{MAX_PARTS}, scores.TheConstants.{MAX_ROW_SCORE}};
 ghost use Rattle.cs_base.specs.outside.Causes.{ReadsWithin};
-ghost use Rattle.cs_file.specs.Indexes.{IsIndex, is_met};
 ghost use Rattle.cs_engine.specs.{Blockwise.{HasFound}, Finding.{AsksAlone, AsksWide, CanFind, FitsFound, IsFoundAnew}};
-ghost use Rattle.cs_engine.specs.{HeldRanges.{AreHeldOver, FitsRange, OnlyGoes}, IndexReading.{IsOpened, IsWordRange, OnlyReads, WhereStood, stock_of}};
-ghost use Rattle.cs_engine.specs.{Steps.{IsBaseOf}, Stocked.{is_between}};
+ghost use Rattle.cs_engine.specs.{HeldRanges.{AreHeldOver, FitsRange, OnlyGoes}, IndexReading.{IsWordRange, OnlyReads, WhereStood}};
+ghost use Rattle.cs_engine.specs.{Sources.{CanRead, IsSource, met_in, seen}, Steps.{IsBaseOf}, Stocked.{is_between}};
 
-use crate::blockwise::{are_many, found_behind};
+use crate::blockwise::found_behind;
 use crate::counting::listed_docs;
 use crate::finding::{CountedWords, QueryFound, QueryOver};
 use crate::gathering::nothing_gathered;
 use crate::held::{Holder, Holding};
 use crate::plain::words_of_part;
+use crate::source::Source;
 use cs_base::{Base, Part, Store};
-use cs_file::{FetchFault, Index};
+use cs_file::FetchFault;
 use cs_tables::WordCounts;
 use std::alloc::Global;
 
 /// The words that a query of these parts asks for alone, where they are many.
-pub(crate) fn wide_words(index: &Index, parts: &[Part]) -> Option<(u32, u32)>
-    requires { IsIndex index.now }
+pub(crate) fn wide_words<I: Source>(index: &I, parts: &[Part]) -> Option<(u32, u32)>
+    requires { IsSource (I.view index.now) }
 
-    ensures { IfSome result (λ w. AsksAlone index.now parts.now w.0 w.1) }
+    ensures { IfSome result (λ w. AsksAlone (I.view index.now) parts.now w.0 w.1) }
 {
     let [part] = parts else {
         return None;
@@ -32,7 +32,7 @@ pub(crate) fn wide_words(index: &Index, parts: &[Part]) -> Option<(u32, u32)>
     let Some(words) = words_of_part(index, part) else {
         return None;
     };
-    if are_many(index, words) {
+    if index.are_many(words) {
         return Some(words);
     }
     None
@@ -40,21 +40,23 @@ pub(crate) fn wide_words(index: &Index, parts: &[Part]) -> Option<(u32, u32)>
 
 /// What is found of a query that asks for these words alone, taken out of what is held of them, or else read. It is to be held behind
 /// the reply.
-pub(crate) fn find_range<S: Store>(
-    over: QueryOver<'_>,
+pub(crate) fn find_range<I: Source, S: Store>(
+    over: QueryOver<'_, I>,
     store: &mut S,
     words: (u32, u32),
     held: &mut Holder,
 ) -> Result<QueryFound, FetchFault>
-    requires asks { AsksWide over.index.now over.query.now words.0 words.1 }
-    requires held { All (FitsRange over.index.now) held.old }
-    requires over { CanFind (S.bytes store.old) over }
+    requires asks { AsksWide (I.view over.index.now) over.query.now words.0 words.1 }
+    requires held { All (FitsRange (seen (I.view over.index.now))) held.old }
+    requires over { CanFind (S.bytes store.old) (I.view over.index.now) over.query.now }
 
-    ensures told { WhereStood (S.bytes store.old) over.entry.index.now (λ b. AreHeldOver b held.old → IfOk result (IsFoundAnew b over.entry)) }
-    ensures fits { IfOk result (FitsFound over.entry) }
+    ensures told { WhereStood (S.bytes store.old) (I.view over.entry.index.now).index
+        (λ b. AreHeldOver ((I.view over.entry.index.now).stock b) held.old
+        → IfOk result (IsFoundAnew b (I.view over.entry.index.now) over.entry.query.now over.entry.cut)) }
+    ensures fits { IfOk result (FitsFound (seen (I.view over.entry.index.now)) over.entry.query.now) }
     ensures held { OnlyGoes held.old held.new }
-    ensures store { OnlyReads S.bytes S.lent S.faults over.entry.index.now store.old store.new result }
-    ensures reads { ReadsWithin (length (filter (is_met words.0 words.1) over.entry.index.now.heads)) (S.reads store.old) (S.reads store.new) }
+    ensures store { OnlyReads S.bytes S.lent S.faults (I.view over.entry.index.now).index store.old store.new result }
+    ensures reads { ReadsWithin (met_in (I.view over.entry.index.now) words.0 words.1) (S.reads store.old) (S.reads store.new) }
 {
     let (hits, counts) = counted_words(over.alloc, over.index, store, words, held)?;
     let table = counts.table(over.alloc, over.cut)?;
@@ -71,25 +73,25 @@ pub(crate) fn find_range<S: Store>(
 }
 
 // The hits of a range of words, and these words, counted: taken out of what is held, or else read.
-fn counted_words<S: Store>(
+fn counted_words<I: Source, S: Store>(
     alloc: Global,
-    index: &Index,
+    index: &I,
     store: &mut S,
     words: (u32, u32),
     held: &mut Holder,
 ) -> Result<(Base, WordCounts), FetchFault>
-    requires words { IsWordRange index.now words.0 words.1 }
-    requires held { All (FitsRange index.now) held.old }
-    requires opened { IsOpened (S.bytes store.old) index.now }
+    requires words { IsWordRange (seen (I.view index.now)) words.0 words.1 }
+    requires held { All (FitsRange (seen (I.view index.now))) held.old }
+    requires opened { CanRead (S.bytes store.old) (I.view index.now) }
 
-    ensures told { WhereStood (S.bytes store.old) index.now
-        (λ b. AreHeldOver b held.old
-        → IfOk result (λ f. HasFound base.All (filter (is_between words.0 words.1) (stock_of b).posts) f.0 f.1)) }
-    ensures base { IfOk result (λ f. IsBaseOf index.now.docs (MAX_ROW_SCORE * MAX_PARTS) f.0) }
-    ensures words { IfOk result (λ f. f.1.high ≤ length index.now.words) }
+    ensures told { WhereStood (S.bytes store.old) (I.view index.now).index
+        (λ b. AreHeldOver ((I.view index.now).stock b) held.old
+        → IfOk result (λ f. HasFound base.All (filter (is_between words.0 words.1) ((I.view index.now).stock b).posts) f.0 f.1)) }
+    ensures base { IfOk result (λ f. IsBaseOf (I.view index.now).docs (MAX_ROW_SCORE * MAX_PARTS) f.0) }
+    ensures words { IfOk result (λ f. f.1.high ≤ length (I.view index.now).words) }
     ensures held { OnlyGoes held.old held.new }
-    ensures store { OnlyReads S.bytes S.lent S.faults index.now store.old store.new result }
-    ensures reads { ReadsWithin (length (filter (is_met words.0 words.1) index.now.heads)) (S.reads store.old) (S.reads store.new) }
+    ensures store { OnlyReads S.bytes S.lent S.faults (I.view index.now).index store.old store.new result }
+    ensures reads { ReadsWithin (met_in (I.view index.now) words.0 words.1) (S.reads store.old) (S.reads store.new) }
 {
     if let Some(Holding::Counted { hits, counts }) = held.take(words, false) {
         return Ok((hits, counts));
@@ -99,23 +101,23 @@ fn counted_words<S: Store>(
 }
 
 // The hits of a range of words, and these words, counted. Each block that holds such a word is read once.
-fn read_words<S: Store>(
+fn read_words<I: Source, S: Store>(
     alloc: Global,
-    index: &Index,
+    index: &I,
     store: &mut S,
     words: (u32, u32),
 ) -> Result<(Base, WordCounts), FetchFault>
-    requires words { IsWordRange index.now words.0 words.1 }
-    requires opened { IsOpened (S.bytes store.old) index.now }
+    requires words { IsWordRange (seen (I.view index.now)) words.0 words.1 }
+    requires opened { CanRead (S.bytes store.old) (I.view index.now) }
 
-    ensures told { WhereStood (S.bytes store.old) index.now
-        (λ b. IfOk result (λ f. HasFound base.All (filter (is_between words.0 words.1) (stock_of b).posts) f.0 f.1)) }
-    ensures base { IfOk result (λ f. IsBaseOf index.now.docs (MAX_ROW_SCORE * MAX_PARTS) f.0) }
-    ensures words { IfOk result (λ f. f.1.high ≤ length index.now.words) }
-    ensures store { OnlyReads S.bytes S.lent S.faults index.now store.old store.new result }
-    ensures reads { ReadsWithin (length (filter (is_met words.0 words.1) index.now.heads)) (S.reads store.old) (S.reads store.new) }
+    ensures told { WhereStood (S.bytes store.old) (I.view index.now).index
+        (λ b. IfOk result (λ f. HasFound base.All (filter (is_between words.0 words.1) ((I.view index.now).stock b).posts) f.0 f.1)) }
+    ensures base { IfOk result (λ f. IsBaseOf (I.view index.now).docs (MAX_ROW_SCORE * MAX_PARTS) f.0) }
+    ensures words { IfOk result (λ f. f.1.high ≤ length (I.view index.now).words) }
+    ensures store { OnlyReads S.bytes S.lent S.faults (I.view index.now).index store.old store.new result }
+    ensures reads { ReadsWithin (met_in (I.view index.now) words.0 words.1) (S.reads store.old) (S.reads store.new) }
 {
-    let all = listed_docs(alloc, index.docs, &Base::All)?;
+    let all = listed_docs(alloc, index.docs(), &Base::All)?;
     let none = nothing_gathered(alloc, index, words);
     let found = found_behind(alloc, index, store, &Base::All, words, &all, &none)?;
     Ok(found)

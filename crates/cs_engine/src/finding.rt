@@ -4,27 +4,34 @@ ghost use Rattle.std.specs.List.{All};
 ghost use Rattle.cs_base.specs.declared.content.limits.TheConstants.{MAX_PARTS};
 ghost use Rattle.cs_base.specs.declared.content.query.Query.{out-Query};
 ghost use Rattle.cs_base.specs.declared.content.scores.TheConstants.{MAX_ROW_SCORE};
-ghost use Rattle.cs_file.specs.Indexes.{IsIndex, StandsFor};
+ghost use Rattle.cs_file.specs.Indexes.{StandsFor};
 ghost use Rattle.cs_engine.specs.Finding.{CanOwn, FitsFound, IsFoundAnew};
-ghost use Rattle.cs_engine.specs.{Keeping.{FitsQuery, IsEntryOver, entry_with}, Loose.{IsTableFor}, Steps.{IsBaseOf}};
+ghost use Rattle.cs_engine.specs.{Keeping.{FitsQuery, IsEntryOver, entry_with}, Loose.{IsTableFor}, Sources.{seen}, Steps.{IsBaseOf}, Stocked.{corpus_in}};
 
-use crate::entries::hits_of;
+use crate::entries::posts_hits;
+use crate::source::Source;
 use crate::steps::end_positive;
 use cs_base::{Base, Memory, Query};
-use cs_cache::Entry;
+use cs_cache::KeptEntry;
 use cs_cols::Cols;
-use cs_file::Index;
 use cs_tables::{Table, WordCounts, completions};
-use std::alloc::Global;
+use std::alloc::{AllocError, Global};
 
-/// A query over an opened index, how many completions are shown, and the memory for what is made.
-#[derive(Clone, Copy)]
-pub(crate) struct QueryOver<'a> {
+/// A query over a source, how many completions are shown, and the memory for what is made.
+pub(crate) struct QueryOver<'a, I: Source> {
     pub(crate) alloc: Global,
-    pub(crate) index: &'a Index,
+    pub(crate) index: &'a I,
     pub(crate) query: &'a Query,
     pub(crate) cut: u32,
 }
+
+impl<I: Source> Clone for QueryOver<'_, I> {
+    fn clone(&self) -> Result<Self, AllocError> {
+        Ok(*self)
+    }
+}
+
+impl<I: Source> Copy for QueryOver<'_, I> {}
 
 /// What is found of a query.
 #[derive(Drop)]
@@ -34,7 +41,7 @@ pub(crate) struct QueryFound {
     /// The completions, cut.
     pub(crate) table: Table,
     /// The query's own entry, where it wasn't kept before and isn't too large.
-    pub(crate) own: Option<Entry>,
+    pub(crate) own: Option<KeptEntry>,
     /// The words of the range that the query asks for alone, counted in its hits, where it is to be held.
     pub(crate) range: Option<CountedWords>,
 }
@@ -48,12 +55,16 @@ pub(crate) struct CountedWords {
 }
 
 /// What is found by the query's own entry, which goes along.
-pub(crate) fn found_with(over: QueryOver<'_>, entry: Entry) -> Result<QueryFound, Memory>
-    requires own { CanOwn over entry }
+pub(crate) fn found_with<I: Source>(
+    over: QueryOver<'_, I>,
+    entry: KeptEntry,
+) -> Result<QueryFound, Memory>
+    requires own { CanOwn (I.view over.index.now) over.query.now entry }
 
-    ensures told { (b : List ℕ) → StandsFor b over.entry.index.now → IsEntryOver b over.entry.index.now over.entry.query.now entry
-        → IfOk result (IsFoundAnew b over.entry) }
-    ensures fits { IfOk result (FitsFound over.entry) }
+    ensures told { (b : List ℕ) → StandsFor b (I.view over.entry.index.now).index
+        → IsEntryOver (corpus_in ((I.view over.entry.index.now).stock b)) (seen (I.view over.entry.index.now)) over.entry.query.now entry
+        → IfOk result (IsFoundAnew b (I.view over.entry.index.now) over.entry.query.now over.entry.cut) }
+    ensures fits { IfOk result (FitsFound (seen (I.view over.entry.index.now)) over.entry.query.now) }
 {
     let (hits, table) = found_in(over, &entry.base, &entry.rows)?;
     Ok(QueryFound {
@@ -65,21 +76,22 @@ pub(crate) fn found_with(over: QueryOver<'_>, entry: Entry) -> Result<QueryFound
 }
 
 /// The hits and the table by the base and the rows of the query's own entry.
-pub(crate) fn found_in(
-    over: QueryOver<'_>,
+pub(crate) fn found_in<I: Source>(
+    over: QueryOver<'_, I>,
     base: &Base,
     rows: &Cols,
 ) -> Result<(Base, Table), Memory>
-    requires own { CanOwn over (entry_with base.now rows.now.posts) }
+    requires own { CanOwn (I.view over.index.now) over.query.now (entry_with base.now rows.now.posts) }
 
-    ensures told { (b : List ℕ) → StandsFor b over.entry.index.now
-        → IsEntryOver b over.entry.index.now over.entry.query.now (entry_with base.now rows.now.posts)
-        → IfOk result (λ f. IsTableFor over.entry.index.now b over.entry.query.now over.entry.cut f.0 f.1) }
-    ensures base { IfOk result (λ f. IsBaseOf over.entry.index.now.docs (MAX_ROW_SCORE * MAX_PARTS) f.0) }
-    ensures table { IfOk result (λ f. All (λ w. w.word < length over.entry.index.now.words) f.1.first) }
+    ensures told { (b : List ℕ) → StandsFor b (I.view over.entry.index.now).index
+        → IsEntryOver (corpus_in ((I.view over.entry.index.now).stock b)) (seen (I.view over.entry.index.now)) over.entry.query.now
+        (entry_with base.now rows.now.posts)
+        → IfOk result (λ f. IsTableFor (I.view over.entry.index.now) b over.entry.query.now over.entry.cut f.0 f.1) }
+    ensures base { IfOk result (λ f. IsBaseOf (I.view over.entry.index.now).docs (MAX_ROW_SCORE * MAX_PARTS) f.0) }
+    ensures table { IfOk result (λ f. All (λ w. w.word < length (I.view over.entry.index.now).words) f.1.first) }
 {
     let positive = end_positive(over.query.parts.as_slice());
-    let hits = hits_of(over.alloc, positive, base, rows)?;
+    let hits = posts_hits(over.alloc, positive, base, rows)?;
     let table = completions(over.alloc, rows, over.cut)?;
     Ok((hits, table))
 }

@@ -1,17 +1,17 @@
 //! The numbers of the rows of some words, gathered block by block until they are too many.
-ghost use Rattle.std.specs.Prelude.{◌≡◌, ◌-◌, ◌<◌, ◌^◌, ℕ, Bool, List, Option, filter, length, IfOk};
+ghost use Rattle.std.specs.Prelude.{◌≡◌, ◌-◌, ◌<◌, ◌^◌, ℕ, Bool, List, Option, length, IfOk};
 ghost use Rattle.cs_base.specs.outside.Causes.{ReadsWithin};
-ghost use Rattle.cs_file.specs.Indexes.{is_met};
-ghost use Rattle.cs_engine.specs.{GatheredRows.{HasGathered}, IndexReading.{IsOpened, IsWordRange, OnlyReads}};
+ghost use Rattle.cs_engine.specs.{GatheredRows.{HasGathered}, IndexReading.{IsWordRange, OnlyReads}, Sources.{CanRead, met_in, seen}};
 
 use crate::packing::pack;
+use crate::source::Source;
 use cs_base::Store;
-use cs_file::{FetchFault, Index, Sought};
+use cs_file::{FetchFault, Sought};
 use std::alloc::Global;
 
 /// The numbers of rows of some words, of the first blocks that hold such a word, and which blocks these are.
 #[derive(Drop)]
-pub(crate) struct Gathered {
+pub(crate) struct GatheredKeys {
     /// The numbers, block by block.
     pub(crate) keys: Vec<u64>,
     /// The first block that holds such a word.
@@ -23,14 +23,18 @@ pub(crate) struct Gathered {
 }
 
 /// Nothing yet of the rows whose word's number is `words.0` or more and below `words.1`.
-pub(crate) fn nothing_gathered(alloc: Global, index: &Index, words: (u32, u32)) -> Gathered
-    requires { IsWordRange index.now words.0 words.1 }
+pub(crate) fn nothing_gathered<I: Source>(
+    alloc: Global,
+    index: &I,
+    words: (u32, u32),
+) -> GatheredKeys
+    requires { IsWordRange (seen (I.view index.now)) words.0 words.1 }
 
-    ensures gathered { (told : Option (List ℕ)) (listed : List Bool) → HasGathered index.now told words.0 words.1 listed result }
+    ensures gathered { (told : Option (List ℕ)) (listed : List Bool) → HasGathered (I.view index.now) told words.0 words.1 listed result }
     ensures none { result.next ≡ result.first }
 {
-    let (first, last) = index.blocks(words.0, words.1);
-    Gathered {
+    let (first, last) = index.blocks(words);
+    GatheredKeys {
         keys: Vec::new(alloc),
         first,
         next: first,
@@ -40,31 +44,31 @@ pub(crate) fn nothing_gathered(alloc: Global, index: &Index, words: (u32, u32)) 
 
 /// Of the rows in listed documents whose word's number is `words.0` or more and below `words.1`, those of the first blocks, until there
 /// are more than `room`. Each block that holds such a word is read at most once.
-pub(crate) fn gather<S: Store>(
+pub(crate) fn gather_keys<I: Source, S: Store>(
     alloc: Global,
-    index: &Index,
+    index: &I,
     store: &mut S,
     words: (u32, u32),
     listed: &[bool],
     room: usize,
-) -> Result<Gathered, FetchFault>
-    requires words { IsWordRange index.now words.0 words.1 }
-    requires listed { length listed.now ≡ index.now.docs }
-    requires opened { IsOpened (S.bytes store.old) index.now }
+) -> Result<GatheredKeys, FetchFault>
+    requires words { IsWordRange (seen (I.view index.now)) words.0 words.1 }
+    requires listed { length listed.now ≡ (I.view index.now).docs }
+    requires opened { CanRead (S.bytes store.old) (I.view index.now) }
 
-    ensures gathered { IfOk result (λ g. HasGathered index.now (S.bytes store.old) words.0 words.1 listed.now g) }
+    ensures gathered { IfOk result (λ g. HasGathered (I.view index.now) (S.bytes store.old) words.0 words.1 listed.now g) }
     ensures whole { IfOk result (λ g. g.next < g.last → (room < length g.keys.items) × (length g.keys.items < 2 ^ 64)) }
-    ensures store { OnlyReads S.bytes S.lent S.faults index.now store.old store.new result }
+    ensures store { OnlyReads S.bytes S.lent S.faults (I.view index.now).index store.old store.new result }
     ensures read { IfOk result (λ g. ReadsWithin (g.next - g.first) (S.reads store.old) (S.reads store.new)) }
-    ensures reads { ReadsWithin (length (filter (is_met words.0 words.1) index.now.heads)) (S.reads store.old) (S.reads store.new) }
+    ensures reads { ReadsWithin (met_in (I.view index.now) words.0 words.1) (S.reads store.old) (S.reads store.new) }
 {
-    let weights = index.weights;
-    let (first, last) = index.blocks(words.0, words.1);
+    let weights = index.weights();
+    let (first, last) = index.blocks(words);
     let mut keys = Vec::new(alloc);
     let mut block = Sought::new(alloc);
     for k in first..last {
         if keys.len() > room {
-            return Ok(Gathered {
+            return Ok(GatheredKeys {
                 keys,
                 first,
                 next: k,
@@ -74,7 +78,7 @@ pub(crate) fn gather<S: Store>(
         index.fetch_sought(alloc, store, k, words, listed, &mut block)?;
         pack(weights, &block.posts, &mut keys)?;
     }
-    Ok(Gathered {
+    Ok(GatheredKeys {
         keys,
         first,
         next: last,

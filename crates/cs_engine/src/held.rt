@@ -5,7 +5,7 @@ ghost use Rattle.std.specs.Prelude.{◌≡◌, ◌+◌, ◌<◌, ◌≤◌, ◌^
 ghost use Rattle.std.specs.List.{list_any};
 ghost use Rattle.cs_engine.specs.HeldRanges.{HoldsMore, IsFirstOf, IsWithout, PassesAt, bytes_of_range, is_kind, is_range, range_bytes, what_bytes};
 
-use crate::hits::size_of;
+use crate::hits::listed_count;
 use cs_base::Base;
 use cs_cols::Cols;
 use cs_tables::WordCounts;
@@ -46,7 +46,7 @@ pub(crate) struct HeldRange {
 
 /// Ranges that are held, the last used first.
 #[derive(Drop)]
-pub(crate) struct Holder {
+pub struct Holder {
     ranges: Vec<HeldRange>,
 }
 
@@ -66,7 +66,7 @@ impl Model for Holder {
 
 impl Holder {
     /// No range.
-    pub(crate) fn new(alloc: Global) -> Holder
+    pub fn new(alloc: Global) -> Holder
         ensures { result ≡ [] }
     {
         Holder {
@@ -101,7 +101,7 @@ impl Holder {
     }
 
     /// Lets everything go where memory is wanted.
-    pub(crate) fn give_back(&mut self, alloc: Global, wanted: bool)
+    pub fn give_back(&mut self, alloc: Global, wanted: bool)
         ensures left { self.new ≡ (if wanted then [] else self.old) }
         ensures bounded { range_bytes self.new ≤ MAX_HELD_BYTES }
     {
@@ -141,7 +141,7 @@ fn bytes_held(what: &Holding, words: u32) -> u128
     match what {
         Holding::Rows(rows) => ROW_BYTES * rows.len() as u128,
         Holding::Counted { hits, .. } => {
-            HIT_BYTES * size_of(hits) as u128 + COUNT_BYTES * u128::from(words)
+            HIT_BYTES * listed_count(hits) as u128 + COUNT_BYTES * u128::from(words)
         }
     }
 }

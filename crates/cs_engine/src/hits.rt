@@ -5,7 +5,7 @@ ghost use Rattle.cs_meet.specs.Filters.{keep_docs, drop_docs};
 ghost use Rattle.cs_base.specs.content.{Members.{members_in}, Orders.{AreSorted, by_rank}};
 ghost use Rattle.cs_model_kept.specs.Entries.{listed_count};
 ghost use Rattle.cs_rank.specs.DocScores.{IsBase};
-ghost use Rattle.cs_engine.specs.Stocked.{base_hits, docs_in, every};
+ghost use Rattle.cs_engine.specs.Stocked.{base_hits, base_docs, every};
 
 use cs_base::{Base, Memory, Scored, Seq};
 use cs_cols::Cols;
@@ -19,20 +19,20 @@ pub(crate) fn kept_in(alloc: Global, docs: u32, base: &Base, rows: Cols) -> Resu
     requires rows_sorted { AreSorted rows.posts }
     requires known { All (λ p. p.doc < docs) rows.posts }
 
-    ensures ok { IfOk result (λ c. c.posts ≡ keep_docs rows.posts (docs_in docs base.now)) }
+    ensures ok { IfOk result (λ c. c.posts ≡ keep_docs rows.posts (base_docs docs base.now)) }
     ensures sorted { IfOk result (λ c. AreSorted c.posts) }
 {
     match base {
         Base::All => Ok(rows),
         Base::Listed(hits) => {
-            let numbers = numbers_of(alloc, hits.as_slice())?;
+            let numbers = doc_numbers(alloc, hits.as_slice())?;
             let kept = keep_docs(alloc, &rows, &numbers)?;
             Ok(kept)
         }
     }
 }
 
-pub(crate) fn numbers_of(alloc: Global, hits: &[Scored]) -> Result<Vec<u32>, Memory>
+pub(crate) fn doc_numbers(alloc: Global, hits: &[Scored]) -> Result<Vec<u32>, Memory>
     ensures { IfOk result (λ v. v.items ≡ map (λ h. h.doc) hits.now) }
 {
     let mut numbers = Vec::with_capacity(alloc, hits.len())?;
@@ -43,7 +43,7 @@ pub(crate) fn numbers_of(alloc: Global, hits: &[Scored]) -> Result<Vec<u32>, Mem
 }
 
 // The hits of a base that have none of the rows.
-pub(crate) fn without(
+pub(crate) fn hits_without(
     alloc: Global,
     docs: u32,
     base: &Base,
@@ -68,7 +68,7 @@ pub(crate) fn without(
 }
 
 /// How many documents a base lists; 0 where it stands for all.
-pub(crate) fn size_of(base: &Base) -> usize
+pub(crate) fn listed_count(base: &Base) -> usize
     ensures { result ≡ listed_count base.now }
 {
     match base {

@@ -39,6 +39,16 @@ pub(crate) fn pack(weights: Weights, posts: &[Post], keys: &mut Vec<u64>) -> Res
     Ok(())
 }
 
+/// Adds the number of a post.
+pub(crate) fn pack_one(weights: Weights, post: Post, keys: &mut Vec<u64>) -> Result<(), Memory>
+    requires { IsPacked weights post }
+
+    ensures { OnOk result (keys.new.items ≡ keys.old.items ++ key_of weights post ∷ []) }
+{
+    keys.push(key_of(weights, post))?;
+    Ok(())
+}
+
 /// The rows that these are the numbers of, in order, each place once.
 pub(crate) fn ordered(alloc: Global, weights: Weights, mut keys: Vec<u64>) -> Result<Cols, Memory>
     ensures { IfOk result (λ c. (rows : List Post) → keys.items ≡ map (key_of weights) rows → All (IsPacked weights) rows
@@ -59,7 +69,7 @@ fn unpack(alloc: Global, weights: Weights, keys: &[u64]) -> Result<Cols, Memory>
     for key in keys {
         let place = *key / COLUMN_ROOM;
         if place != last {
-            rows.push_reserved(post_of(weights, *key));
+            rows.push_reserved(post_of_key(weights, *key));
         }
         last = place;
     }
@@ -80,11 +90,11 @@ fn key_of(weights: Weights, post: Post) -> u64
 
 /// The post of a number.
 #[inline]
-pub(crate) fn post_of(weights: Weights, key: u64) -> Post
+pub(crate) fn post_of_key(weights: Weights, key: u64) -> Post
     ensures { result ≡ post_of_key weights key }
 {
     Post {
-        doc: doc_of(key),
+        doc: doc_of_key(key),
         word: word_of(key),
         pos: (key / COLUMN_ROOM / WORD_ROOM % POSITION_ROOM) as u32,
         score: score_of(weights, key % COLUMN_ROOM),
@@ -93,7 +103,7 @@ pub(crate) fn post_of(weights: Weights, key: u64) -> Post
 
 /// The document of a number's post.
 #[inline]
-pub(crate) fn doc_of(key: u64) -> u32
+pub(crate) fn doc_of_key(key: u64) -> u32
     ensures { result ≡ doc_of_key key }
 {
     (key / COLUMN_ROOM / WORD_ROOM / POSITION_ROOM) as u32

@@ -61,7 +61,7 @@ fn united_halves(alloc: Global, lists: &[Cols]) -> Result<Cols, Memory>
 }
 
 /// Those of `next` that are linked to one of `found`.
-pub(crate) fn linked_rows(
+pub(crate) fn linked_posts(
     alloc: Global,
     link: Link,
     found: &Cols,

@@ -1,34 +1,38 @@
-//! The rows of a range of words, read from the blocks of an index.
-ghost use Rattle.std.specs.Prelude.{◌≡◌, filter, length, IfOk};
+//! The rows of a range of words, read from blocks, and those in memory.
+ghost use Rattle.std.specs.Prelude.{◌≡◌, filter, IfOk};
 ghost use Rattle.cs_base.specs.outside.Causes.{ReadsWithin};
-ghost use Rattle.cs_file.specs.Indexes.{is_met};
-ghost use Rattle.cs_engine.specs.{IndexReading.{AreWithin, IsOpened, IsWordRange, OnlyReads, WhereStood, stock_of}, Stocked.{is_between}};
+ghost use Rattle.cs_engine.specs.{IndexReading.{AreWithin, IsWordRange, OnlyReads, WhereStood}, Sources.{CanRead, met_in, seen}, Stocked.{is_between}};
 
-use crate::counting::listed_docs;
-use crate::gathering::gather;
+use crate::chosen::pack_chosen;
+use crate::gathering::gather_keys;
 use crate::packing::ordered;
-use cs_base::{Base, Store};
+use crate::source::Source;
+use cs_base::Store;
 use cs_cols::Cols;
-use cs_file::{FetchFault, Index};
+use cs_file::FetchFault;
 use std::alloc::Global;
 
 /// The rows whose word's number is `words.0` or more and below `words.1`, in order. Each block that holds such a word is read once.
-pub(crate) fn rows_between<S: Store>(
+pub(crate) fn rows_between<I: Source, S: Store>(
     alloc: Global,
-    index: &Index,
+    index: &I,
     store: &mut S,
     words: (u32, u32),
 ) -> Result<Cols, FetchFault>
-    requires words { IsWordRange index.now words.0 words.1 }
-    requires opened { IsOpened (S.bytes store.old) index.now }
+    requires words { IsWordRange (seen (I.view index.now)) words.0 words.1 }
+    requires opened { CanRead (S.bytes store.old) (I.view index.now) }
 
-    ensures told { WhereStood (S.bytes store.old) index.now (λ b. IfOk result (λ c. c.posts ≡ filter (is_between words.0 words.1) (stock_of b).posts)) }
-    ensures within { IfOk result (λ c. AreWithin index.now c.posts) }
-    ensures store { OnlyReads S.bytes S.lent S.faults index.now store.old store.new result }
-    ensures reads { ReadsWithin (length (filter (is_met words.0 words.1) index.now.heads)) (S.reads store.old) (S.reads store.new) }
+    ensures told { WhereStood (S.bytes store.old) (I.view index.now).index
+        (λ b. IfOk result (λ c. c.posts ≡ filter (is_between words.0 words.1) ((I.view index.now).stock b).posts)) }
+    ensures within { IfOk result (λ c. AreWithin (seen (I.view index.now)) c.posts) }
+    ensures store { OnlyReads S.bytes S.lent S.faults (I.view index.now).index store.old store.new result }
+    ensures reads { ReadsWithin (met_in (I.view index.now) words.0 words.1) (S.reads store.old) (S.reads store.new) }
 {
-    let all = listed_docs(alloc, index.docs, &Base::All)?;
-    let gathered = gather(alloc, index, store, words, &all, usize::MAX)?;
-    let rows = ordered(alloc, index.weights, gathered.keys)?;
+    let weights = index.weights();
+    let all = index.list_all(alloc)?;
+    let listed: &[bool] = &all;
+    let mut gathered = gather_keys(alloc, index, store, words, listed, usize::MAX)?;
+    pack_chosen(weights, index.held(), words, listed, &mut gathered.keys)?;
+    let rows = ordered(alloc, weights, gathered.keys)?;
     Ok(rows)
 }

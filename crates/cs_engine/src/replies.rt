@@ -3,26 +3,26 @@ ghost use Rattle.std.specs.Prelude.{◌≡◌, ◌<◌, IfOk, length, map};
 ghost use Rattle.std.specs.{List.{All}, Str.{IsUtf8}};
 ghost use Rattle.{cs_model.specs.Replies.{shown_word}, cs_engine.specs.Stocked.{shown_at}};
 
+use crate::source::Source;
 use cs_base::{Memory, Seq, Text};
 use cs_query::Shown;
 use cs_tables::Completion;
-use cs_vocab::Vocab;
 use std::alloc::Global;
 
 /// The first words of a table, each with how many documents have it.
-pub(crate) fn shown_words(
+pub(crate) fn shown_words<I: Source>(
     alloc: Global,
-    words: &Vocab,
+    index: &I,
     first: &[Completion],
 ) -> Result<Seq<Shown>, Memory>
-    requires texts { All IsUtf8 words.now }
-    requires known { All (λ c. c.word < length words.now) first.now }
+    requires texts { All IsUtf8 (I.view index.now).words }
+    requires known { All (λ c. c.word < length (I.view index.now).words) first.now }
 
-    ensures { IfOk result (λ shown. shown ≡ map (shown_at words.now) first.now) }
+    ensures { IfOk result (λ shown. shown ≡ map (shown_at (I.view index.now).words) first.now) }
 {
     let mut shown = Seq::new(alloc);
     for completion in first {
-        let word = shown_text(alloc, words.word(completion.word))?;
+        let word = shown_text(alloc, index.word(completion.word))?;
         shown.push(Shown {
             docs: completion.docs,
             word,

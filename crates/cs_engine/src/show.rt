@@ -8,62 +8,74 @@ ghost use Rattle.cs_model_kept.specs.Due.{met_of_facets, met_prefix};
 ghost use Rattle.cs_query.specs.RequestView.{asked};
 ghost use Rattle.cs_engine.specs.{Asking.{division, titles_read}, Counting.{AreListed}, HeldRanges.{AreHeldOver, FitsRange, HoldsMore}, Loose.{IsTableFor}};
 ghost use Rattle.cs_engine.specs.declared.held.Holding.TheVariants as holding;
-ghost use Rattle.cs_engine.specs.{IndexReading.{IsOpened, OnlyReads, WhereStood, stock_of}, Steps.{IsBaseOf}, Stocked.{corpus_in, facet_at}};
+ghost use Rattle.cs_engine.specs.{IndexReading.{OnlyReads, WhereStood}, Sources.{CanRead, seen}, Steps.{IsBaseOf}, Stocked.{corpus_in, facet_at}};
 
 use crate::counting::listed_docs;
-use crate::facets::{counted, rows_of_words};
+use crate::facets::{count_facet, rows_of_words};
 use crate::held::{HeldRange, Holder, Holding};
 use crate::hits::first_hits;
 use crate::replies::shown_words;
+use crate::source::Source;
 use crate::words::span_of_facet;
 use cs_base::{Base, Scored, Seq, Store, Text};
 use cs_cols::Cols;
-use cs_file::{FetchFault, Index};
+use cs_file::FetchFault;
 use cs_query::{FacetShown, HitShown, Reply, Request};
 use cs_tables::Table;
-use std::alloc::Global;
+use std::alloc::{AllocError, Global};
 
-/// A request over an opened index, and the memory for what is made.
-#[derive(Clone, Copy)]
-pub(crate) struct RequestOver<'a> {
-    pub(crate) alloc: Global,
-    pub(crate) index: &'a Index,
-    pub(crate) request: &'a Request,
+/// A request over a source, and the memory for what is made.
+pub struct RequestOver<'a, I: Source> {
+    /// The memory.
+    pub alloc: Global,
+    /// The source.
+    pub index: &'a I,
+    /// The request.
+    pub request: &'a Request,
 }
+
+impl<I: Source> Clone for RequestOver<'_, I> {
+    fn clone(&self) -> Result<Self, AllocError> {
+        Ok(*self)
+    }
+}
+
+impl<I: Source> Copy for RequestOver<'_, I> {}
 
 /// The reply to a request, by the hits of its query and the table of its completions. Facets go on from the rows that are held, and
 /// what is read of them is held.
-pub(crate) fn show<S: Store>(
-    over: RequestOver<'_>,
+pub(crate) fn show<I: Source, S: Store>(
+    over: RequestOver<'_, I>,
     store: &mut S,
     held: &mut Holder,
     hits: &Base,
     table: &Table,
 ) -> Result<Reply, FetchFault>
-    requires base { IsBaseOf over.index.now.docs (MAX_ROW_SCORE * MAX_PARTS) hits.now }
-    requires table { All (λ w. w.word < length over.index.now.words) table.now.first }
-    requires held { All (FitsRange over.index.now) held.old }
-    requires opened { IsOpened (S.bytes store.old) over.index.now }
+    requires base { IsBaseOf (I.view over.index.now).docs (MAX_ROW_SCORE * MAX_PARTS) hits.now }
+    requires table { All (λ w. w.word < length (I.view over.index.now).words) table.now.first }
+    requires held { All (FitsRange (seen (I.view over.index.now))) held.old }
+    requires opened { CanRead (S.bytes store.old) (I.view over.index.now) }
 
-    ensures told { WhereStood (S.bytes store.old) over.entry.index.now
-        (λ b. AreHeldOver b held.old → (let r = asked over.entry.request.now in
-        IsTableFor over.entry.index.now b r.query r.completions hits.now table.now
-        → IfOk result (λ reply. reply ≡ reply_of (corpus_in (stock_of b)) r))) }
+    ensures told { WhereStood (S.bytes store.old) (I.view over.entry.index.now).index
+        (λ b. AreHeldOver ((I.view over.entry.index.now).stock b) held.old → (let r = asked over.entry.request.now in
+        IsTableFor (I.view over.entry.index.now) b r.query r.completions hits.now table.now
+        → IfOk result (λ reply. reply ≡ reply_of (corpus_in ((I.view over.entry.index.now).stock b)) r))) }
     ensures few { IfOk result (λ r. length r.hits ≤ over.entry.request.now.hits) }
-    ensures held { All (FitsRange over.entry.index.now) held.new }
-    ensures good { WhereStood (S.bytes store.old) over.entry.index.now (λ b. AreHeldOver b held.old → AreHeldOver b held.new) }
-    ensures store { OnlyReads S.bytes S.lent S.faults over.entry.index.now store.old store.new result }
+    ensures held { All (FitsRange (seen (I.view over.entry.index.now))) held.new }
+    ensures good { WhereStood (S.bytes store.old) (I.view over.entry.index.now).index
+        (λ b. AreHeldOver ((I.view over.entry.index.now).stock b) held.old → AreHeldOver ((I.view over.entry.index.now).stock b) held.new) }
+    ensures store { OnlyReads S.bytes S.lent S.faults (I.view over.entry.index.now).index store.old store.new result }
     ensures reads { ReadsWithin (titles_read (asked over.entry.request.now) result
-        + met_of_facets (division over.entry.index.now) (asked over.entry.request.now).facets) (S.reads store.old) (S.reads store.new) }
+        + met_of_facets (division (I.view over.entry.index.now).index) (asked over.entry.request.now).facets) (S.reads store.old) (S.reads store.new) }
 {
     let RequestOver {
         alloc,
         index,
         request,
     } = over;
-    let shown = shown_words(alloc, &index.words, table.first.as_slice())?;
+    let shown = shown_words(alloc, index, table.first.as_slice())?;
     let facets = shown_facets(over, store, held, hits)?;
-    let (first, total) = first_hits(alloc, index.docs, hits, request.offset, request.hits)?;
+    let (first, total) = first_hits(alloc, index.docs(), hits, request.offset, request.hits)?;
     let shown_first = shown_hits(alloc, index, store, first.as_slice())?;
     Ok(Reply {
         completions: shown,
@@ -75,23 +87,24 @@ pub(crate) fn show<S: Store>(
 }
 
 // The table of each facet asked.
-fn shown_facets<S: Store>(
-    over: RequestOver<'_>,
+fn shown_facets<I: Source, S: Store>(
+    over: RequestOver<'_, I>,
     store: &mut S,
     held: &mut Holder,
     base: &Base,
 ) -> Result<Seq<FacetShown>, FetchFault>
-    requires base { IsBaseOf over.index.now.docs (MAX_ROW_SCORE * MAX_PARTS) base.now }
-    requires held { All (FitsRange over.index.now) held.old }
-    requires opened { IsOpened (S.bytes store.old) over.index.now }
+    requires base { IsBaseOf (I.view over.index.now).docs (MAX_ROW_SCORE * MAX_PARTS) base.now }
+    requires held { All (FitsRange (seen (I.view over.index.now))) held.old }
+    requires opened { CanRead (S.bytes store.old) (I.view over.index.now) }
 
-    ensures told { WhereStood (S.bytes store.old) over.entry.index.now
-        (λ b. AreHeldOver b held.old → IfOk result (λ shown. shown
-        ≡ map (facet_at (stock_of b) base.now over.entry.request.now.completions) (asked over.entry.request.now).facets)) }
-    ensures held { All (FitsRange over.entry.index.now) held.new }
-    ensures good { WhereStood (S.bytes store.old) over.entry.index.now (λ b. AreHeldOver b held.old → AreHeldOver b held.new) }
-    ensures store { OnlyReads S.bytes S.lent S.faults over.entry.index.now store.old store.new result }
-    ensures reads { ReadsWithin (met_of_facets (division over.entry.index.now) (asked over.entry.request.now).facets)
+    ensures told { WhereStood (S.bytes store.old) (I.view over.entry.index.now).index
+        (λ b. AreHeldOver ((I.view over.entry.index.now).stock b) held.old → IfOk result (λ shown. shown
+        ≡ map (facet_at ((I.view over.entry.index.now).stock b) base.now over.entry.request.now.completions) (asked over.entry.request.now).facets)) }
+    ensures held { All (FitsRange (seen (I.view over.entry.index.now))) held.new }
+    ensures good { WhereStood (S.bytes store.old) (I.view over.entry.index.now).index
+        (λ b. AreHeldOver ((I.view over.entry.index.now).stock b) held.old → AreHeldOver ((I.view over.entry.index.now).stock b) held.new) }
+    ensures store { OnlyReads S.bytes S.lent S.faults (I.view over.entry.index.now).index store.old store.new result }
+    ensures reads { ReadsWithin (met_of_facets (division (I.view over.entry.index.now).index) (asked over.entry.request.now).facets)
         (S.reads store.old) (S.reads store.new) }
 {
     let RequestOver {
@@ -103,7 +116,7 @@ fn shown_facets<S: Store>(
     if request.facets.as_slice().is_empty() {
         return Ok(shown);
     }
-    let listed = listed_docs(alloc, index.docs, base)?;
+    let listed = listed_docs(alloc, index.docs(), base)?;
     for name in request.facets.as_slice() {
         let facet = shown_facet(over, store, held, base, &listed, name)?;
         shown.push(facet)?;
@@ -112,26 +125,27 @@ fn shown_facets<S: Store>(
 }
 
 // The table of one facet in the documents that a base lists. Its rows are held from then on.
-fn shown_facet<S: Store>(
-    over: RequestOver<'_>,
+fn shown_facet<I: Source, S: Store>(
+    over: RequestOver<'_, I>,
     store: &mut S,
     held: &mut Holder,
     base: &Base,
     listed: &[bool],
     name: &Text,
 ) -> Result<FacetShown, FetchFault>
-    requires base { IsBaseOf over.index.now.docs (MAX_ROW_SCORE * MAX_PARTS) base.now }
-    requires listed { AreListed over.index.now.docs base.now listed.now }
-    requires held { All (FitsRange over.index.now) held.old }
-    requires opened { IsOpened (S.bytes store.old) over.index.now }
+    requires base { IsBaseOf (I.view over.index.now).docs (MAX_ROW_SCORE * MAX_PARTS) base.now }
+    requires listed { AreListed (I.view over.index.now).docs base.now listed.now }
+    requires held { All (FitsRange (seen (I.view over.index.now))) held.old }
+    requires opened { CanRead (S.bytes store.old) (I.view over.index.now) }
 
-    ensures told { WhereStood (S.bytes store.old) over.entry.index.now
-        (λ b. AreHeldOver b held.old → IfOk result (λ shown. shown
-        ≡ facet_at (stock_of b) base.now over.entry.request.now.completions name.now)) }
-    ensures held { All (FitsRange over.entry.index.now) held.new }
-    ensures good { WhereStood (S.bytes store.old) over.entry.index.now (λ b. AreHeldOver b held.old → AreHeldOver b held.new) }
-    ensures store { OnlyReads S.bytes S.lent S.faults over.entry.index.now store.old store.new result }
-    ensures reads { ReadsWithin (met_prefix (division over.entry.index.now) (named name.now [])) (S.reads store.old) (S.reads store.new) }
+    ensures told { WhereStood (S.bytes store.old) (I.view over.entry.index.now).index
+        (λ b. AreHeldOver ((I.view over.entry.index.now).stock b) held.old → IfOk result (λ shown. shown
+        ≡ facet_at ((I.view over.entry.index.now).stock b) base.now over.entry.request.now.completions name.now)) }
+    ensures held { All (FitsRange (seen (I.view over.entry.index.now))) held.new }
+    ensures good { WhereStood (S.bytes store.old) (I.view over.entry.index.now).index
+        (λ b. AreHeldOver ((I.view over.entry.index.now).stock b) held.old → AreHeldOver ((I.view over.entry.index.now).stock b) held.new) }
+    ensures store { OnlyReads S.bytes S.lent S.faults (I.view over.entry.index.now).index store.old store.new result }
+    ensures reads { ReadsWithin (met_prefix (division (I.view over.entry.index.now).index) (named name.now [])) (S.reads store.old) (S.reads store.new) }
 {
     let RequestOver {
         alloc,
@@ -140,10 +154,10 @@ fn shown_facet<S: Store>(
     } = over;
     let words = span_of_facet(alloc, index, name)?;
     let rows = rows_of_words(alloc, index, store, words, held)?;
-    let counts = counted(alloc, index, words, &rows, base, listed)?;
+    let counts = count_facet(alloc, words, &rows, base, listed)?;
     let table = counts.table(alloc, request.completions)?;
     hold_rows(held, words, rows);
-    let shown = shown_words(alloc, &index.words, table.first.as_slice())?;
+    let shown = shown_words(alloc, index, table.first.as_slice())?;
     let copied = name.copy(alloc)?;
     Ok(FacetShown {
         name: copied,
@@ -152,18 +166,19 @@ fn shown_facet<S: Store>(
 }
 
 // Hits with their titles, each of which is read once.
-fn shown_hits<S: Store>(
+fn shown_hits<I: Source, S: Store>(
     alloc: Global,
-    index: &Index,
+    index: &I,
     store: &mut S,
     hits: &[Scored],
 ) -> Result<Seq<HitShown>, FetchFault>
-    requires known { All (λ h. h.doc < index.now.docs) hits.now }
-    requires opened { IsOpened (S.bytes store.old) index.now }
+    requires known { All (λ h. h.doc < (I.view index.now).docs) hits.now }
+    requires opened { CanRead (S.bytes store.old) (I.view index.now) }
 
-    ensures told { WhereStood (S.bytes store.old) index.now (λ b. IfOk result (λ shown. shown ≡ map (hit_shown (corpus_in (stock_of b))) hits.now)) }
+    ensures told { WhereStood (S.bytes store.old) (I.view index.now).index (λ b. IfOk result
+        (λ shown. shown ≡ map (hit_shown (corpus_in ((I.view index.now).stock b))) hits.now)) }
     ensures count { IfOk result (λ shown. length shown ≡ length hits.now) }
-    ensures store { OnlyReads S.bytes S.lent S.faults index.now store.old store.new result }
+    ensures store { OnlyReads S.bytes S.lent S.faults (I.view index.now).index store.old store.new result }
     ensures reads { ReadsWithin (length hits.now) (S.reads store.old) (S.reads store.new) }
 {
     let mut shown = Seq::new(alloc);

@@ -5,32 +5,34 @@ ghost use Rattle.cs_base.specs.{declared.content.limits.TheConstants.{MAX_PARTS}
 ghost use Rattle.cs_base.specs.declared.content.query.Part.{out-Part};
 ghost use Rattle.cs_model.specs.Answers.{rows_of_part};
 ghost use Rattle.cs_model_kept.specs.Due.{met_of_part};
-ghost use Rattle.cs_engine.specs.{Asking.{division}, IndexReading.{IsOpened, OnlyReads, WhereStood, stock_of}};
+ghost use Rattle.cs_engine.specs.{Asking.{division}, IndexReading.{OnlyReads, WhereStood}, Sources.{CanRead, seen}};
 ghost use Rattle.cs_engine.specs.{Steps.{AreHitsOver, EntryFits, IsBaseOf, IsStep, end_positive}, Stocked.{corpus_in}};
 
-use crate::entries::{entry_after, hits_of};
+use crate::entries::{posts_after, posts_hits};
 use crate::evaluation::rows_of_part;
 use crate::plain::words_of_part;
 use crate::scored::hits_by_words;
+use crate::source::Source;
 use cs_base::{Base, Part, Store};
-use cs_cache::Entry;
-use cs_file::{FetchFault, Index};
+use cs_cache::KeptEntry;
+use cs_file::FetchFault;
 use std::alloc::Global;
 
 /// The hits of a query of these parts, one part after the other. Where a part asks for some words, its rows are brought into no order.
-pub(crate) fn hits_of_parts<S: Store>(
+pub(crate) fn hits_of_parts<I: Source, S: Store>(
     alloc: Global,
-    index: &Index,
+    index: &I,
     store: &mut S,
     parts: &[Part],
 ) -> Result<Base, FetchFault>
     requires few { length parts.now ≤ MAX_PARTS }
-    requires opened { IsOpened (S.bytes store.old) index.now }
+    requires opened { CanRead (S.bytes store.old) (I.view index.now) }
 
-    ensures told { WhereStood (S.bytes store.old) index.now (λ b. IfOk result (λ hits. (q : Query) → parts.now ≡ (out-Query q).parts → AreHitsOver b q hits)) }
-    ensures within { IfOk result (IsBaseOf index.now.docs (MAX_ROW_SCORE * length parts.now)) }
-    ensures store { OnlyReads S.bytes S.lent S.faults index.now store.old store.new result }
-    ensures reads { ReadsWithin (sum (map (met_of_part (division index.now)) parts.now)) (S.reads store.old) (S.reads store.new) }
+    ensures told { WhereStood (S.bytes store.old) (I.view index.now).index
+        (λ b. IfOk result (λ hits. (q : Query) → parts.now ≡ (out-Query q).parts → AreHitsOver ((I.view index.now).stock b) q hits)) }
+    ensures within { IfOk result (IsBaseOf (I.view index.now).docs (MAX_ROW_SCORE * length parts.now)) }
+    ensures store { OnlyReads S.bytes S.lent S.faults (I.view index.now).index store.old store.new result }
+    ensures reads { ReadsWithin (sum (map (met_of_part (division (I.view index.now).index)) parts.now)) (S.reads store.old) (S.reads store.new) }
 {
     let mut hits = Base::All;
     for part in parts {
@@ -39,31 +41,32 @@ pub(crate) fn hits_of_parts<S: Store>(
             hits = Base::Listed(scored);
             continue;
         }
-        let entry = extended(alloc, index, store, hits, part)?;
-        hits = hits_of(alloc, !part.excluded, &entry.base, &entry.rows)?;
+        let entry = extended_entry(alloc, index, store, hits, part)?;
+        hits = posts_hits(alloc, !part.excluded, &entry.base, &entry.rows)?;
     }
     Ok(hits)
 }
 
 /// The entry of a query and one part more, by the query's hits. The part's rows are brought into one order.
-pub(crate) fn extended<S: Store>(
+pub(crate) fn extended_entry<I: Source, S: Store>(
     alloc: Global,
-    index: &Index,
+    index: &I,
     store: &mut S,
     hits: Base,
     part: &Part,
-) -> Result<Entry, FetchFault>
-    requires base { IsBaseOf index.now.docs (MAX_ROW_SCORE * MAX_PARTS) hits }
-    requires opened { IsOpened (S.bytes store.old) index.now }
+) -> Result<KeptEntry, FetchFault>
+    requires base { IsBaseOf (I.view index.now).docs (MAX_ROW_SCORE * MAX_PARTS) hits }
+    requires opened { CanRead (S.bytes store.old) (I.view index.now) }
 
-    ensures told { WhereStood (S.bytes store.old) index.now (λ b. IfOk result (IsStep (stock_of b) hits (rows_of_part (corpus_in (stock_of b)) part.now))) }
-    ensures within { IfOk result (λ e. (n : ℕ) → IsBaseOf index.now.docs (MAX_ROW_SCORE * n) hits
-        → EntryFits index.now (not (out-Part part.now).excluded) (n + 1) e) }
-    ensures store { OnlyReads S.bytes S.lent S.faults index.now store.old store.new result }
-    ensures reads { ReadsWithin (met_of_part (division index.now) part.now) (S.reads store.old) (S.reads store.new) }
+    ensures told { WhereStood (S.bytes store.old) (I.view index.now).index
+        (λ b. IfOk result (IsStep ((I.view index.now).stock b) hits (rows_of_part (corpus_in ((I.view index.now).stock b)) part.now))) }
+    ensures within { IfOk result (λ e. (n : ℕ) → IsBaseOf (I.view index.now).docs (MAX_ROW_SCORE * n) hits
+        → EntryFits (seen (I.view index.now)) (not (out-Part part.now).excluded) (n + 1) e) }
+    ensures store { OnlyReads S.bytes S.lent S.faults (I.view index.now).index store.old store.new result }
+    ensures reads { ReadsWithin (met_of_part (division (I.view index.now).index) part.now) (S.reads store.old) (S.reads store.new) }
 {
     let rows = rows_of_part(alloc, index, store, part)?;
-    let entry = entry_after(alloc, index.docs, hits, part.excluded, rows)?;
+    let entry = posts_after(alloc, index.docs(), hits, part.excluded, rows)?;
     Ok(entry)
 }
 

@@ -6,14 +6,19 @@ ghost use Rattle.cs_model.specs.Collection.{named};
 ghost use Rattle.cs_vocab.specs.Ranges.{IsRange};
 ghost use Rattle.cs_engine.specs.IndexReading.{IsSpanOf};
 
+use crate::source::Source;
 use cs_base::{Memory, Text};
 use cs_file::Index;
 use cs_text::named_word;
 use std::alloc::Global;
 
 /// The facet words of a name: from the first number up to the second, which is left out.
-pub(crate) fn span_of_facet(alloc: Global, index: &Index, name: &Text) -> Result<(u32, u32), Memory>
-    ensures { IfOk result (λ w. IsRange index.now.words (named name.now []) w.0 w.1) }
+pub(crate) fn span_of_facet<I: Source>(
+    alloc: Global,
+    index: &I,
+    name: &Text,
+) -> Result<(u32, u32), Memory>
+    ensures { IfOk result (λ w. IsRange (I.view index.now).words (named name.now []) w.0 w.1) }
 {
     let prefix = named_word(alloc, name.as_str(), "")?;
     Ok(index.range(prefix.as_str().as_bytes()))

@@ -34,13 +34,13 @@ use Rattle.cs_file.specs.CallAnswers.{IsBlockOf, IsChangeOfBlock, IsChangeOfTitl
 use Rattle.cs_file.specs.Fetching.{CanBeJudged, IsBlockAt, IsFaultAt, IsFaultOf, ReadsText}
 use Rattle.cs_file.specs.declared.fault.FetchFault.{FetchFault}
 use Rattle.cs_file.specs.declared.fault.FetchFault.TheVariants as fetches
-use Rattle.cs_file.specs.declared.fetching.Placed.{Placed}
+use Rattle.cs_file.specs.declared.fetching.PlacedBlock.{PlacedBlock}
 use Rattle.cs_file.specs.Indexes.{CausedReads, HasAllBlocks, IndexView, IsIndex, StandsFor, block_place, block_posts, title_in, title_place, title_len}
 use Rattle.cs_file.proofs.HeadsLemmas.{head_shaped}
 use Rattle.cs_file.proofs.OffsetsLemmas.{spans}
 use Rattle.cs_file.proofs.StoodLemmas.{stood_block}
 use Rattle.cs_file.proofs.TitlesLemmas.{stood_title}
-use Rattle.cs_file.proofs.WeightsLemmas.{one_reading}
+use Rattle.cs_file.proofs.HeaderWeightsLemmas.{one_reading}
 
 pub block_within : (i : IndexView) (k : ℕ) (d : BlockHead) → k < length i.heads → block_place i k + (get_or i.heads k d).len ≤ block_place i (length i.heads)
 block_within i k d lt =
@@ -89,12 +89,12 @@ block_at i own k hs at seen index same known at_is = record {
 }
 
 -- where the bytes of block k were read; of a store that tells, they are its bytes at the block's place
-pub record BlockRead (i : IndexView) (told : Option (List ℕ)) (k : ℕ) (placed : Placed) (read : List ℕ) : Type 0 where
+pub record BlockRead (i : IndexView) (told : Option (List ℕ)) (k : ℕ) (placed : PlacedBlock) (read : List ℕ) : Type 0 where
   pub stands : IsBlockAt i k placed
   pub long : length read ≡ placed.head.len
   pub read_is : ForSome told (λ b. read ≡ part b placed.at placed.head.len)
 
-module _ {i : IndexView} {k : ℕ} {placed : Placed} (stands : IsBlockAt i k placed) where
+module _ {i : IndexView} {k : ℕ} {placed : PlacedBlock} (stands : IsBlockAt i k placed) where
   pub judged_at : CanBeJudged placed placed.head.len
   judged_at =
       let index = stands.index in
@@ -110,7 +110,7 @@ module _ {i : IndexView} {k : ℕ} {placed : Placed} (stands : IsBlockAt i k pla
       → BlockRead i told k placed read
   block_read long is = record { stands = stands; long = long; read_is = is }
 
-module _ {i : IndexView} {told : Option (List ℕ)} {k : ℕ} {placed : Placed} (stands : IsBlockAt i k placed) (fits : HasAllBlocks told i) where
+module _ {i : IndexView} {told : Option (List ℕ)} {k : ℕ} {placed : PlacedBlock} (stands : IsBlockAt i k placed) (fits : HasAllBlocks told i) where
   -- a block lies within what a store tells
   pub told_within : ForSome told (λ b. placed.at + placed.head.len ≤ length b)
   told_within b t =
@@ -118,7 +118,7 @@ module _ {i : IndexView} {told : Option (List ℕ)} {k : ℕ} {placed : Placed} 
       let one = block_within i k placed.head stands.known in
       omega (arith, all, one, stands.at_is, ap (λ (x : BlockHead). x.len) (stands.head_is placed.head))
 
-module _ {i : IndexView} {told : Option (List ℕ)} {k : ℕ} {placed : Placed} {read : List ℕ} (h : BlockRead i told k placed read) where
+module _ {i : IndexView} {told : Option (List ℕ)} {k : ℕ} {placed : PlacedBlock} {read : List ℕ} (h : BlockRead i told k placed read) where
   -- the same, with the block's head and place themselves
   there : (d : BlockHead) → ForSome told (λ b. read ≡ part b (block_place i k) (get_or i.heads k d).len)
   there d = λ b t. h.read_is b t ∙ ap (λ (n : ℕ). part b n placed.head.len) h.stands.at_is

@@ -11,7 +11,7 @@ use Rattle.cs_base.specs.declared.content.doc.Post.{Post}
 use Rattle.cs_block.specs.DocWords.{HasDocWords, IsListable}
 use Rattle.cs_model_index.specs.BlockRules.{rows_read}
 use Rattle.cs_file.specs.CallAnswers.{AreOf}
-use Rattle.cs_file.specs.declared.fetching.Placed.{Placed}
+use Rattle.cs_file.specs.declared.fetching.PlacedBlock.{PlacedBlock}
 use Rattle.cs_file.specs.Indexes.{IndexView, StandsFor, block_posts}
 use Rattle.cs_file.proofs.FetchLemmas.{BlockRead, read_there}
 use Rattle.cs_file.proofs.HeadsLemmas.{head_within}
@@ -21,7 +21,7 @@ words_even head docs bytes ds ws h =
     let rows = rows_read head bytes in
     ap length h.words_are ∙ length-map rows (λ (p : Post). p.word) ∙ sym (ap length h.docs_are ∙ length-map rows (λ (p : Post). p.doc))
 
-module _ {i : IndexView} {told : Option (List ℕ)} {k : ℕ} {placed : Placed} {read : List ℕ} (h : BlockRead i told k placed read) where
+module _ {i : IndexView} {told : Option (List ℕ)} {k : ℕ} {placed : PlacedBlock} {read : List ℕ} (h : BlockRead i told k placed read) where
   known_rows : All (IsListable placed.head placed.docs) (rows_read placed.head read)
       → All (λ p. (p.doc < i.docs) × (p.word < length i.words)) (rows_read placed.head read)
   known_rows listable =

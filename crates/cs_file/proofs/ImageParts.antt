@@ -31,10 +31,10 @@ use Rattle.cs_file.specs.declared.entries.Entries.{Entries}
 use Rattle.cs_file.specs.declared.fault.FetchFault.{FetchFault}
 use Rattle.cs_file.specs.declared.fault.FetchFault.TheVariants as fetches
 use Rattle.cs_file.specs.declared.part.BlockPart.{BlockPart}
-use Rattle.cs_file.specs.ImageSteps.{IsFilled, IsJudged, parts_break, parts_of}
+use Rattle.cs_file.specs.ImageSteps.{IsFilled, IsJudged, parts_break, block_parts}
 use Rattle.cs_file.specs.Indexes.{IndexView, IsIndex}
 use Rattle.cs_file.specs.Parting.{bounded_by, bounds_of, is_closed_by, keeps_part, part_by}
-use Rattle.cs_file.specs.ReadImages.{IsChangeBy, directory_place, entry_bytes_of, has_bounds}
+use Rattle.cs_file.specs.WholeImages.{IsChangeBy, directory_place, entry_bytes_of, has_bounds}
 use Rattle.cs_file.proofs.BlockParts.{bound_pairs}
 use Rattle.cs_file.proofs.FetchLemmas.{nothing}
 use Rattle.cs_file.proofs.HeadsLemmas.{few_heads}
@@ -72,11 +72,11 @@ part_made head posts docs words p docs_are words_are h all f =
     same_part p q a b c = rw (a, b, c) refl
 
 pub parts_more : (pairs : List (BlockHead × List Post)) (k : ℕ) (d : BlockHead × List Post) (p : BlockPart) (parts now : List BlockPart) → k < length pairs
-    → p ≡ part_by (bounded (get_or pairs k d).0 (get_or pairs k d).1) (get_or pairs k d).1 → now ≡ parts ++ p ∷ [] → parts ≡ parts_of (take k pairs)
-    → now ≡ parts_of (take (k + 1) pairs)
+    → p ≡ part_by (bounded (get_or pairs k d).0 (get_or pairs k d).1) (get_or pairs k d).1 → now ≡ parts ++ p ∷ [] → parts ≡ block_parts (take k pairs)
+    → now ≡ block_parts (take (k + 1) pairs)
 parts_more pairs k d p parts now lt is added h =
-    added ∙ ap (λ (x : BlockPart). parts ++ x ∷ []) is ∙ ap (λ (x : List BlockPart). x ++ parts_of (get_or pairs k d ∷ [])) h
-    ∙ sym (map-append (λ (q : BlockHead × List Post). part_by (bounded q.0 q.1) q.1) (take k pairs) (get_or pairs k d ∷ [])) ∙ ap parts_of (sym (take_more pairs k d lt))
+    added ∙ ap (λ (x : BlockPart). parts ++ x ∷ []) is ∙ ap (λ (x : List BlockPart). x ++ block_parts (get_or pairs k d ∷ [])) h
+    ∙ sym (map-append (λ (q : BlockHead × List Post). part_by (bounded q.0 q.1) q.1) (take k pairs) (get_or pairs k d ∷ [])) ∙ ap block_parts (sym (take_more pairs k d lt))
 
 -- the same of a pair of them
 pub part_at : {q : BlockHead × List Post} {head : BlockHead} {posts : List Post} {docs words : List ℕ} {p : BlockPart} → q ≡ (head, posts) → docs ≡ map (λ r. r.doc) posts
@@ -95,7 +95,7 @@ filled_at hs bs k x one lt is filled =
 -- ---- rules 18 and 19
 same_test : (target : ℕ) (ws : List (List ℕ)) (q : Block) (last : Option Block) (at : ℕ) (pairs : List Block) → length q.1 ≡ q.0.rows
     → is_parted target ws (record { value = q; last = last; next = slice_get pairs 0; at = at })
-    ≡ keeps_part target ws (part_by (bounded q.0 q.1) q.1) (slice_get (parts_of pairs) 0)
+    ≡ keeps_part target ws (part_by (bounded q.0 q.1) q.1) (slice_get (block_parts pairs) 0)
 same_test target ws q last at [] len = ap (λ (n : ℕ). has_rows q && (is_light target q.0.words n && true)) len
 same_test target ws q last at (r ∷ pairs) len =
     let closed : ℕ → Bool = λ n. is_closed_by target ws (record { head = record (bounded q.0 q.1) { rows = n }; whole = true; first = 0 }) (Some (part_by (bounded r.0 r.1) r.1)) in
@@ -105,17 +105,17 @@ same_test target ws q last at (r ∷ pairs) len =
 parting_same : (target : ℕ) (ws : List (List ℕ)) (e at : ℕ) (last : Option Block) (before : Option BlockPart) (pairs : List Block)
     → AllByRecursion (λ q. length q.1 ≡ q.0.rows) pairs
     → break_of (is_parted target ws) (laid (λ (q : Block). e) at last pairs)
-    ≡ break_of (λ j. keeps_part target ws j.value j.next) (laid (λ (p : BlockPart). e) at before (parts_of pairs))
+    ≡ break_of (λ j. keeps_part target ws j.value j.next) (laid (λ (p : BlockPart). e) at before (block_parts pairs))
 unfolding laid break_of
 parting_same target ws e at last before [] fine = refl
 parting_same target ws e at last before (q ∷ pairs) fine =
     let p : BlockPart = part_by (bounded q.0 q.1) q.1 in
     let i : Placed Block = record { value = q; last = last; next = slice_get pairs 0; at = at } in
-    let j : Placed BlockPart = record { value = p; last = before; next = slice_get (parts_of pairs) 0; at = at } in
+    let j : Placed BlockPart = record { value = p; last = before; next = slice_get (block_parts pairs) 0; at = at } in
     break_cons (is_parted target ws) i (laid (λ (q : Block). e) (at + e) (Some q) pairs)
     ∙ ap (λ (b : Bool). cond b (break_of (is_parted target ws) (laid (λ (q : Block). e) (at + e) (Some q) pairs)) (Some at)) (same_test target ws q last at pairs fine.0)
-    ∙ ap (λ (o : Option ℕ). cond (keeps_part target ws p (slice_get (parts_of pairs) 0)) o (Some at)) (parting_same target ws e (at + e) (Some q) (Some p) pairs fine.1)
-    ∙ sym (break_cons (λ j. keeps_part target ws j.value j.next) j (laid (λ (p : BlockPart). e) (at + e) (Some p) (parts_of pairs)))
+    ∙ ap (λ (o : Option ℕ). cond (keeps_part target ws p (slice_get (block_parts pairs) 0)) o (Some at)) (parting_same target ws e (at + e) (Some q) (Some p) pairs fine.1)
+    ∙ sym (break_cons (λ j. keeps_part target ws j.value j.next) j (laid (λ (p : BlockPart). e) (at + e) (Some p) (block_parts pairs)))
 
 turned : (a b : ℕ) → (a == b) ≡ (b == a)
 turned a b = elim (cases_order a b) [
@@ -126,7 +126,7 @@ turned a b = elim (cases_order a b) [
 -- rule 19 by blocks, and by the heads of their parts
 bounds_same : (e at : ℕ) (last : Option Block) (before : Option (BlockHead × (ℕ × ℕ))) (hs : List BlockHead) (bs : List (List Post))
     → break_of (λ q. has_bounds q.value) (laid (λ (q : Block). e) at last (zip hs bs))
-    ≡ break_of (λ j. is_bound j.value) (laid (λ (p : BlockHead × (ℕ × ℕ)). e) at before (bound_pairs (parts_of (zip hs bs)) hs))
+    ≡ break_of (λ j. is_bound j.value) (laid (λ (p : BlockHead × (ℕ × ℕ)). e) at before (bound_pairs (block_parts (zip hs bs)) hs))
 unfolding laid break_of
 bounds_same e at last before [] [] = refl
 bounds_same e at last before [] (b ∷ bs) = refl
@@ -134,7 +134,7 @@ bounds_same e at last before (h ∷ hs) [] = refl
 bounds_same e at last before (h ∷ hs) (b ∷ bs) =
     let q : Block = (h, b) in
     let p : BlockHead × (ℕ × ℕ) = (bounded h b, bounds_of h) in
-    let pairs = bound_pairs (parts_of (zip hs bs)) hs in
+    let pairs = bound_pairs (block_parts (zip hs bs)) hs in
     let i : Placed Block = record { value = q; last = last; next = slice_get (zip hs bs) 0; at = at } in
     let j : Placed (BlockHead × (ℕ × ℕ)) = record { value = p; last = before; next = slice_get pairs 0; at = at } in
     let one : has_bounds q ≡ is_bound p =
@@ -164,12 +164,12 @@ none_first o p e = ap (λ (x : Option Broken). first_reason (x ∷ p ∷ [])) e 
     only (Some x) = refl
 
 parting_place : (target target' : ℕ) (ws ws' : List (List ℕ)) (e e' at at' : ℕ) (parts : List BlockPart) (pairs : List Block) → target ≡ target' → ws ≡ ws' → e ≡ e'
-    → at ≡ at' → parts ≡ parts_of pairs → AllByRecursion (λ q. length q.1 ≡ q.0.rows) pairs
+    → at ≡ at' → parts ≡ block_parts pairs → AllByRecursion (λ q. length q.1 ≡ q.0.rows) pairs
     → break_of (λ j. keeps_part target ws j.value j.next) (laid (λ (p : BlockPart). e) at None parts)
     ≡ break_of (is_parted target' ws') (laid (λ (q : Block). e') at' None pairs)
 parting_place target target' ws ws' e e' at at' parts pairs p q r s t counts = rw (p, q, r, s, t) (sym (parting_same target' ws' e' at' None None pairs counts))
 
-bounds_place : (e e' at at' : ℕ) (parts : List BlockPart) (hs hs' : List BlockHead) (bs : List (List Post)) → e ≡ e' → at ≡ at' → hs ≡ hs' → parts ≡ parts_of (zip hs' bs)
+bounds_place : (e e' at at' : ℕ) (parts : List BlockPart) (hs hs' : List BlockHead) (bs : List (List Post)) → e ≡ e' → at ≡ at' → hs ≡ hs' → parts ≡ block_parts (zip hs' bs)
     → break_of (λ j. is_bound j.value) (laid (λ (p : BlockHead × (ℕ × ℕ)). e) at None (bound_pairs parts hs))
     ≡ break_of (λ q. has_bounds q.value) (laid (λ (q : Block). e') at' None (zip hs' bs))
 bounds_place e e' at at' parts hs hs' bs p q r s = rw (p, q, r, s) (sym (bounds_same e' at' None None hs' bs))
@@ -178,9 +178,9 @@ abbrev items : IndexView → List (List Post) → List (Placed Block)
 items i blocks = laid (λ p. entry_bytes_of i) (directory_place i) None (zip i.heads blocks)
 
 module _ {i : IndexView} {target : ℕ} {words : List (List ℕ)} {heads : List BlockHead} {entries : Entries} (at : Laid i target words heads entries) (blocks : List (List Post))
-    (filled : All IsFilled (zip i.heads blocks)) {parts : List BlockPart} (are : parts ≡ parts_of (zip heads blocks)) where
-  own_parts : parts ≡ parts_of (zip i.heads blocks)
-  own_parts = are ∙ ap (λ (hs : List BlockHead). parts_of (zip hs blocks)) at.heads_are
+    (filled : All IsFilled (zip i.heads blocks)) {parts : List BlockPart} (are : parts ≡ block_parts (zip heads blocks)) where
+  own_parts : parts ≡ block_parts (zip i.heads blocks)
+  own_parts = are ∙ ap (λ (hs : List BlockHead). block_parts (zip hs blocks)) at.heads_are
 
   parting : break_of (λ j. keeps_part target words j.value j.next) (laid (λ p. entries.size) entries.first None parts)
       ≡ break_of (is_parted i.target i.words) (items i blocks)
@@ -219,5 +219,5 @@ judged_along o e (Ok x) h is = absurd is
 judged_along o e (Err x) h is = subst (IsChangeBy o) (sym is) h
 
 -- as many parts as heads
-pub parts_count : (hs : List BlockHead) (bs : List (List Post)) → length hs ≡ length bs → length (parts_of (zip hs bs)) ≡ length hs
+pub parts_count : (hs : List BlockHead) (bs : List (List Post)) → length hs ≡ length bs → length (block_parts (zip hs bs)) ≡ length hs
 parts_count hs bs one = omega (arith, length-map (zip hs bs) (λ (q : Block). part_by (bounded q.0 q.1) q.1), length-zip hs bs, one)

@@ -24,8 +24,8 @@ use Rattle.cs_model_index.proofs.AgainLemmas.{break_none}
 use Rattle.cs_model_index.proofs.ReadBlocks.{AreBounded, heads_bounded}
 use Rattle.cs_model_index.proofs.TextLimits.{placed}
 use Rattle.cs_file.specs.ImageRead.{StoodImagesAreRead}
-use Rattle.cs_file.specs.Indexes.{IndexView, index_of}
-use Rattle.cs_file.specs.ReadImages.{directory_place, entry_bytes_of, has_bounds, image_at, image_break}
+use Rattle.cs_file.specs.Indexes.{IndexView, index_in}
+use Rattle.cs_file.specs.WholeImages.{directory_place, entry_bytes_of, has_bounds, image_at, image_break}
 use Rattle.cs_file.proofs.ImageWritten.{anywhere, listed}
 use Rattle.cs_file.proofs.OffsetsLemmas.{onward_end}
 use Rattle.cs_file.proofs.StoodLemmas.{blocks_start}
@@ -78,17 +78,17 @@ module _ (b : List ℕ) (is : IsSound b) where
   blocks_same : blocks_in (contents_of b).heads (drop (blocks_at (header_of b)) b) ≡ (contents_of b).blocks
   blocks_same = ap (blocks_in (contents_of b).heads) (sym (blocks_start b))
 
-  image_same : image_at (index_of b) b ≡ image_of b
-  unfolding image_at image_of index_of
+  image_same : image_at (index_in b) b ≡ image_of b
+  unfolding image_at image_of index_in
   image_same = same_image _ _ (contents_of b).words (contents_of b).heads _ _ (header_of b).target (weights_of (header_of b).weights) titles_same blocks_same
 
-  none_broken : image_break (index_of b) b ≡ None
-  unfolding image_at image_break index_of
+  none_broken : image_break (index_in b) b ≡ None
+  unfolding image_at image_break index_in
   none_broken =
       let h = header_of b in
       let r = contents_of b in
       let values = is.hold.values in
-      let i = index_of b in
+      let i = index_in b in
       let there : AllByRecursion (λ p. has_bounds p ≡ true) (zip r.heads r.blocks) =
       bounds_kept r.heads r.bytes.blocks (heads_bounded (heads_in (entry_size h.two) r.words h.blocks r.bytes.directory) r.bytes.blocks) in
       four_none _ _ _ _

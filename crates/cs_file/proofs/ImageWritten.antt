@@ -31,11 +31,11 @@ use Rattle.cs_model_index.proofs.WeightsFieldLemmas.{field_is}
 use Rattle.cs_model_index.proofs.WrittenLemmas.{IsWritable, file_again}
 use Rattle.cs_file.specs.Indexes.{IndexView, IsIndex, titles_end}
 use Rattle.cs_file.specs.ImageRead.{ImageRead, ReadImagesAreFiles, read_image}
-use Rattle.cs_file.specs.ReadImages.{IsFileImage, directory_place, entry_bytes_of, has_bounds}
+use Rattle.cs_file.specs.WholeImages.{IsFileImage, directory_place, entry_bytes_of, has_bounds}
 use Rattle.cs_file.specs.Writable.{BlockFits, CanBeWritten}
 use Rattle.cs_file.proofs.HeadsLemmas.{few_heads, head_shaped}
 use Rattle.cs_file.proofs.ImageBytes.{AreSmall, block_small, file_small}
-use Rattle.cs_file.proofs.WeightsLemmas.{one_reading}
+use Rattle.cs_file.proofs.HeaderWeightsLemmas.{one_reading}
 
 -- ---- rules that don't ask where an item lies
 pub anywhere : {X : Type 0} (holds : Placed X → Bool)

@@ -10,7 +10,7 @@ pub mod HeadsLemmas
 pub mod ImageBytes
 pub mod ImagedFiles
 pub mod ImageParts
-pub mod ImageSteps
+pub mod ImageStepLemmas
 pub mod ImageStood
 pub mod ImageWritten
 pub mod KindsLemmas
@@ -32,5 +32,5 @@ pub mod TitleStageLemmas
 pub mod TitlesLemmas
 pub mod VocabularyCuts
 pub mod VocabularyLemmas
-pub mod WeightsLemmas
+pub mod HeaderWeightsLemmas
 pub mod WordLemmas

@@ -32,7 +32,7 @@ use Rattle.cs_model_index.proofs.WeightsFieldLemmas.{weights_fine}
 use Rattle.cs_file.specs.CallAnswers.{IsDamageOf}
 use Rattle.cs_file.specs.declared.fault.OpenFault.{OpenFault}
 use Rattle.cs_file.specs.declared.fault.OpenFault.TheVariants as opens
-use Rattle.cs_file.specs.Indexes.{IndexView, IsIndex, index_of, StandsFor, HasAllBlocks}
+use Rattle.cs_file.specs.Indexes.{IndexView, IsIndex, index_in, StandsFor, HasAllBlocks}
 use Rattle.cs_file.specs.Opening.{Refuses, AreBytes, IsHeader, IsHeaderOf, HasHeader, HasVocabulary, HasOffsets, HasHeads, header_stage, vocabulary_stage}
 use Rattle.cs_file.specs.Opening.{titles_stage, directory_stage, blocks_stage, parts_stage, file_words, offsets_of, heads_of}
 use Rattle.cs_file.proofs.BytesLemmas.{more_front, all_bytes}
@@ -260,8 +260,8 @@ pub same_index : (docs docs' target target' t t' p p' : ℕ) (w w' : Weights) (w
 same_index docs docs' target target' t t' p p' w w' ws ws' os os' hs hs' a b c d e f g h = rw (a, b, c, d, e, f, g, h) refl
 
 pub index_is : (b : List ℕ) (h : Header) (i : IndexView) → IsHeaderOf b h → i.docs ≡ h.docs → i.words ≡ file_words b → i.offsets ≡ offsets_of b
-    → i.heads ≡ heads_of b → i.target ≡ h.target → i.weights ≡ weights_of h.weights → i.titles_at ≡ titles_at h → i.blocks_at ≡ blocks_at h → i ≡ index_of b
-unfolding index_of file_words offsets_of heads_of
+    → i.heads ≡ heads_of b → i.target ≡ h.target → i.weights ≡ weights_of h.weights → i.titles_at ≡ titles_at h → i.blocks_at ≡ blocks_at h → i ≡ index_in b
+unfolding index_in file_words offsets_of heads_of
 index_is b h i is docs words offsets heads target weights titles blocks =
     let back : h ≡ header_of b = sym is.numbers in
     same_index i.docs (header_of b).docs i.target (header_of b).target i.titles_at (titles_at (header_of b)) i.blocks_at (blocks_at (header_of b))
@@ -271,7 +271,7 @@ index_is b h i is docs words offsets heads target weights titles blocks =
     (blocks ∙ ap blocks_at back)
 
 pub stands_for : (b : List ℕ) (h : Header) (i : IndexView) → IsHeaderOf b h → AllRead b h → header_stage b ≡ None → vocabulary_stage b ≡ None
-    → titles_stage b ≡ None → directory_stage b ≡ None → blocks_stage b ≡ None → parts_stage b ≡ None → i ≡ index_of b → StandsFor b i
+    → titles_stage b ≡ None → directory_stage b ≡ None → blocks_stage b ≡ None → parts_stage b ≡ None → i ≡ index_in b → StandsFor b i
 stands_for b h i is read p q r s t u same = record {
   bytes = read_whole b h is read;
   accepted = from_parts b p q r s t ∙ u;

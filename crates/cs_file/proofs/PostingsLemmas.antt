@@ -41,7 +41,7 @@ use Rattle.cs_file.proofs.MarkedNumbers.{any_posts, count_posts}
 use Rattle.cs_file.proofs.PostsLemmas.{block_words}
 use Rattle.cs_file.proofs.StagesLemmas.{refuses_at}
 use Rattle.cs_file.proofs.StoodLemmas.{blocks_start, block_from}
-use Rattle.cs_file.proofs.WeightsLemmas.{one_reading}
+use Rattle.cs_file.proofs.HeaderWeightsLemmas.{one_reading}
 
 -- ---- one block
 pub read_rows : (w : Weights) → AreWeights w → (head : BlockHead) (docs : ℕ) (rows : List Post) (bytes : List ℕ) → docs < 2 ^ 32

@@ -16,11 +16,11 @@ use Rattle.cs_block.specs.Sought.{HasSought, is_sought}
 use Rattle.cs_model_index.specs.BlockRules.{IsBlock, is_scored, rows_read}
 use Rattle.cs_file.specs.CallAnswers.{IsRanged}
 use Rattle.cs_file.specs.Fetching.{CanBeJudged}
-use Rattle.cs_file.specs.declared.fetching.Placed.{Placed}
+use Rattle.cs_file.specs.declared.fetching.PlacedBlock.{PlacedBlock}
 use Rattle.cs_file.specs.Indexes.{IndexView, StandsFor, block_posts}
 use Rattle.cs_file.proofs.FetchLemmas.{BlockRead, read_there}
 use Rattle.cs_file.proofs.PostsLemmas.{block_docs, block_scored}
-use Rattle.cs_file.proofs.WeightsLemmas.{one_reading}
+use Rattle.cs_file.proofs.HeaderWeightsLemmas.{one_reading}
 
 -- what is listed is one of the list
 listed_within : (listed : List Bool) (d : ℕ) → get_or listed d false ≡ true → d < length listed
@@ -48,11 +48,11 @@ module _ (lo hi : ℕ) (listed : List Bool) where
         scored = subst (λ (x : Weights). is_scored x head.facet p ≡ true) own (has.scored j d lt);
       }
 
-  pub sought_stood : {i : IndexView} {told : Option (List ℕ)} {k : ℕ} {placed : Placed} {read : List ℕ} {posts : List Post} → BlockRead i told k placed read
+  pub sought_stood : {i : IndexView} {told : Option (List ℕ)} {k : ℕ} {placed : PlacedBlock} {read : List ℕ} {posts : List Post} → BlockRead i told k placed read
       → (b : List ℕ) → told ≡ Some b → StandsFor b i → HasSought placed.weights placed.head read lo hi listed posts → posts ≡ filter (is_sought lo hi listed) (block_posts b k)
   sought_stood h b t s has = has.are ∙ ap (filter (is_sought lo hi listed)) (read_there h b t s)
 
-  pub decoded_sought : (placed : Placed) (read : List ℕ) (rows posts : List Post) → CanBeJudged placed (length read)
+  pub decoded_sought : (placed : PlacedBlock) (read : List ℕ) (rows posts : List Post) → CanBeJudged placed (length read)
       → IsBlock placed.weights placed.head placed.docs rows read → posts ≡ filter (is_sought lo hi listed) rows → HasSought placed.weights placed.head read lo hi listed posts
   decoded_sought placed read rows posts can block are =
       let scored : Post → Type 0 = λ p. is_scored placed.weights placed.head.facet p ≡ true in

@@ -28,9 +28,9 @@ use Rattle.cs_model_index.specs.WeightsField.{weights_of}
 use Rattle.cs_model_index.specs.declared.limits.TheConstants.{HEADER_BYTES}
 use Rattle.cs_model_index.proofs.AcceptedLemmas.{RulesHold, rules_hold, sections_sized}
 use Rattle.cs_model_index.proofs.NumbersLemmas.{IsBytes, bytes_from_all, all_from_bytes, IsBytes-take, IsBytes-drop}
-use Rattle.cs_file.specs.Indexes.{IndexView, IsIndex, index_of, StandsFor, block_place, block_posts}
+use Rattle.cs_file.specs.Indexes.{IndexView, IsIndex, index_in, StandsFor, block_place, block_posts}
 use Rattle.cs_file.proofs.HeadsLemmas.{head_shaped}
-use Rattle.cs_file.proofs.WeightsLemmas.{blocks_law}
+use Rattle.cs_file.proofs.HeaderWeightsLemmas.{blocks_law}
 
 -- ---- where the blocks begin
 pub blocks_start : (b : List ℕ) → (contents_of b).bytes.blocks ≡ drop (blocks_at (header_of b)) b
@@ -102,7 +102,7 @@ pub record Stood (b : List ℕ) (i : IndexView) : Type 0 where
   pub hold : RulesHold b (contents_of b)
 
 pub stood : (b : List ℕ) (i : IndexView) → StandsFor b i → Stood b i
-unfolding index_of image_of damage
+unfolding index_in image_of damage
 stood b i s =
     let e = s.index in record {
       docs = ap (λ (x : IndexView). x.docs) e;

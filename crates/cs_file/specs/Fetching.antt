@@ -24,10 +24,10 @@ use Rattle.cs_file.specs.Indexes.{IndexView, IsIndex, block_place}
 use Rattle.cs_file.specs.declared.fault.FetchFault.{FetchFault}
 use Rattle.cs_file.specs.declared.fault.FetchFault.TheVariants as fetches
 use Rattle.cs_file.specs.declared.fetched.Fetched.{Fetched}
-use Rattle.cs_file.specs.declared.fetching.Placed.{Placed}
+use Rattle.cs_file.specs.declared.fetching.PlacedBlock.{PlacedBlock}
 
 -- a place in the file has fewer than 64 bits
-pub record IsBlockAt (i : IndexView) (k : ℕ) (placed : Placed) : Type 0 where
+pub record IsBlockAt (i : IndexView) (k : ℕ) (placed : PlacedBlock) : Type 0 where
   pub index : IsIndex i
   pub known : k < length i.heads
   pub small : placed.at < 2 ^ 63
@@ -37,14 +37,14 @@ pub record IsBlockAt (i : IndexView) (k : ℕ) (placed : Placed) : Type 0 where
   pub at_is : placed.at ≡ block_place i k
 
 -- its head fits the bytes, its place and the documents have as many bits as their numbers, and its rows count for something
-pub record CanBeJudged (placed : Placed) (len : ℕ) : Type 0 where
+pub record CanBeJudged (placed : PlacedBlock) (len : ℕ) : Type 0 where
   pub shaped : IsShaped placed.head len
   pub small : placed.at < 2 ^ 63
   pub few : placed.docs < 2 ^ 32
   pub weights : AreWeights placed.weights
 
 -- the documents, words and scores of a block whose bytes were read
-pub record HasScored (placed : Placed) (read : List ℕ) (f : Fetched) : Type 0 where
+pub record HasScored (placed : PlacedBlock) (read : List ℕ) (f : Fetched) : Type 0 where
   pub listed : HasDocWords placed.head placed.docs read f.docs.items f.words.items
   pub scored : HasScores placed.weights placed.head read f.scores.items
 
@@ -59,7 +59,7 @@ IsFaultAt at broken fetches.Read = Unit {0}
 IsFaultAt at broken fetches.Memory = Unit {0}
 
 -- where the bytes keep the rules it is none of a change
-abbrev pub IsFaultOf : Placed → List ℕ → FetchFault → Type 0
+abbrev pub IsFaultOf : PlacedBlock → List ℕ → FetchFault → Type 0
 IsFaultOf placed bytes e = IsFaultAt placed.at (judged placed.weights placed.head placed.docs bytes) e
 
 -- no bytes are the empty text

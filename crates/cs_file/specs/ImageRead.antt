@@ -19,7 +19,7 @@ use Rattle.cs_model_index.specs.Layout.{offsets_from}
 use Rattle.cs_model_index.specs.Sections.{image_of}
 use Rattle.cs_file.specs.CallAnswers.{IsBlockOf}
 use Rattle.cs_file.specs.Indexes.{IndexView, IsIndex, StandsFor, title_len, title_place, titles_end}
-use Rattle.cs_file.specs.ReadImages.{IsFileImage, directory_place, entry_bytes_of, has_bounds, image_at, image_break}
+use Rattle.cs_file.specs.WholeImages.{IsFileImage, directory_place, entry_bytes_of, has_bounds, image_at, image_break}
 use Rattle.cs_file.specs.Writable.{CanBeWritten}
 
 -- as many bytes as the title has, which are text; of a store that tells, these are its bytes at the title's place

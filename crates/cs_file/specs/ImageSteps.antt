@@ -5,7 +5,7 @@
 --   AreTitlesRead i told titles d     the first d titles, as they were read
 --   AreBlocksRead i told blocks k     the first k blocks, as they were read
 --   IsFilled p                        rows that are as many as their head says, with words of the head
---   parts_of pairs                    what rules 18 and 19 ask of heads and their rows
+--   block_parts pairs                 what rules 18 and 19 ask of heads and their rows
 --   parts_break i blocks              the first of these rules that blocks of an index break
 --   IsJudged o r                      the answer of what tries rules, where this is the first broken one
 use Rattle.std.specs.Prelude.{◌≡◌, ℕ, ◌+◌, ◌<◌, ◌≤◌, List, [], ◌∷◌, length, map, All, None, Option, Result, MatchResult, slice_index_or}
@@ -21,7 +21,7 @@ use Rattle.cs_file.specs.CallAnswers.{IsBlockOf}
 use Rattle.cs_file.specs.ImageRead.{IsTitleOf}
 use Rattle.cs_file.specs.Indexes.{IndexView}
 use Rattle.cs_file.specs.Parting.{part_by}
-use Rattle.cs_file.specs.ReadImages.{IsChangeBy, directory_place, entry_bytes_of, has_bounds}
+use Rattle.cs_file.specs.WholeImages.{IsChangeBy, directory_place, entry_bytes_of, has_bounds}
 use Rattle.cs_file.specs.declared.fault.FetchFault.{FetchFault}
 use Rattle.cs_file.specs.declared.part.BlockPart.{BlockPart}
 
@@ -42,8 +42,8 @@ pub record IsFilled (p : BlockHead × List Post) : Type 0 where
   pub words : All (λ r. (p.0.lo ≤ r.word) × (r.word < p.0.lo + p.0.words)) p.1
 
 -- with the bounds of the rows
-abbrev pub parts_of : List (BlockHead × List Post) → List BlockPart
-parts_of pairs = map (λ p. part_by (bounded p.0 p.1) p.1) pairs
+abbrev pub block_parts : List (BlockHead × List Post) → List BlockPart
+block_parts pairs = map (λ p. part_by (bounded p.0 p.1) p.1) pairs
 
 -- rule 18, and behind it rule 19 of the heads of the index
 unfoldable pub parts_break : IndexView → List (List Post) → Option Broken

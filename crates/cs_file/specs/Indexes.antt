@@ -3,7 +3,7 @@
 -- Source: this engine's own; `docs/INDEX_FILE.md` has the rules.
 --
 --   IndexView               what an opened index holds: all of its file but titles and posts
---   index_of b              what is kept of the bytes of an index file
+--   index_in b              what is kept of the bytes of an index file
 --   block_place i k         the place of block k; behind the last block the file's end
 --   title_place i d, title_len i d      where title d begins, and how many bytes it has
 --   IsIndex i               what an opened index keeps, whatever store it was read from
@@ -48,8 +48,8 @@ pub record IndexView : Type 0 where
   pub blocks_at : ℕ
 
 -- what is kept of bytes, which counts only where they are an index file
-unfoldable pub index_of : List ℕ → IndexView
-index_of b =
+unfoldable pub index_in : List ℕ → IndexView
+index_in b =
     let r = contents_of b in
     record {
       docs = r.header.docs;
@@ -115,7 +115,7 @@ pub record IsKeptIndex (i : IndexView) (ps : List ℕ) : Type 0 where
 pub record StandsFor (b : List ℕ) (i : IndexView) : Type 0 where
   pub bytes : All (λ x. x < 2 ^ 8) b
   pub accepted : IsIndexFile b
-  pub index : i ≡ index_of b
+  pub index : i ≡ index_in b
 
 -- the store tells nothing, or has at least as many bytes as titles and blocks need
 abbrev pub HasAllBlocks : Option (List ℕ) → IndexView → Type 0

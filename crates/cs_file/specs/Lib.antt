@@ -7,5 +7,5 @@ pub mod Indexes
 pub mod Opening
 pub mod Parting
 pub mod Putting
-pub mod ReadImages
+pub mod WholeImages
 pub mod Writable

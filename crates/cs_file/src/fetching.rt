@@ -25,7 +25,7 @@ use std::alloc::Global;
 
 /// What is known of a block whose bytes are read.
 #[derive(Clone, Copy)]
-pub(crate) struct Placed {
+pub(crate) struct PlacedBlock {
     /// What the directory says of it.
     pub(crate) head: BlockHead,
     /// The documents of the collection are those below this one.
@@ -123,12 +123,12 @@ impl Index {
     }
 
     /// What is known of block `k`.
-    pub(crate) fn placed(&self, k: u32) -> Placed
+    pub(crate) fn placed(&self, k: u32) -> PlacedBlock
         requires { k < length self.now.heads }
 
         ensures { IsBlockAt self.now k result }
     {
-        Placed {
+        PlacedBlock {
             head: self.heads.as_slice()[k as usize],
             docs: self.docs,
             weights: self.weights,
@@ -171,7 +171,7 @@ pub(crate) fn read_over<S: Store>(
 }
 
 // Adds the posts of a block, whose bytes were read, at the end.
-fn decode_into(bytes: &[u8], placed: &Placed, into: &mut Cols) -> Result<(), FetchFault>
+fn decode_into(bytes: &[u8], placed: &PlacedBlock, into: &mut Cols) -> Result<(), FetchFault>
     requires { CanBeJudged placed.now (length bytes.now) }
 
     ensures ok { OnOk result ((rows : List Post) × IsBlock placed.now.weights placed.now.head placed.now.docs rows bytes.now
@@ -187,7 +187,11 @@ fn decode_into(bytes: &[u8], placed: &Placed, into: &mut Cols) -> Result<(), Fet
 }
 
 /// The posts of a block, whose bytes were read, by decoding it: where a test on some columns fails, this says what is broken.
-pub(crate) fn decode_at(alloc: Global, bytes: &[u8], placed: &Placed) -> Result<Cols, FetchFault>
+pub(crate) fn decode_at(
+    alloc: Global,
+    bytes: &[u8],
+    placed: &PlacedBlock,
+) -> Result<Cols, FetchFault>
     requires { CanBeJudged placed.now (length bytes.now) }
 
     ensures ok { IfOk result (λ rows. IsBlock placed.now.weights placed.now.head placed.now.docs rows.posts bytes.now) }
@@ -216,7 +220,7 @@ fn file_fault(fault: BlockFault, at: u64) -> FetchFault
 }
 
 // Puts the documents, the words and the scores of the posts of a block, whose bytes were read, into columns.
-fn scored_at(alloc: Global, placed: &Placed, into: &mut Fetched) -> Result<(), FetchFault>
+fn scored_at(alloc: Global, placed: &PlacedBlock, into: &mut Fetched) -> Result<(), FetchFault>
     requires { CanBeJudged placed.now (length into.old.bytes.items) }
 
     ensures ok { OnOk result (HasScored placed.now into.old.bytes.items into.new) }
@@ -232,7 +236,7 @@ fn scored_at(alloc: Global, placed: &Placed, into: &mut Fetched) -> Result<(), F
 }
 
 // The same, with anything in the columns behind a fault. Where a score isn't of the block's kind, the block is decoded.
-fn put_scored(alloc: Global, placed: &Placed, into: &mut Fetched) -> Result<(), FetchFault>
+fn put_scored(alloc: Global, placed: &PlacedBlock, into: &mut Fetched) -> Result<(), FetchFault>
     requires { CanBeJudged placed.now (length into.old.bytes.items) }
 
     ensures ok { OnOk result (HasScored placed.now into.old.bytes.items into.new) }
@@ -258,7 +262,7 @@ fn put_all(column: &mut Vec<u8>, scores: &[u8]) -> Result<(), Memory>
 }
 
 // Puts the documents and the words of the posts of a block into columns. Its bytes were read, or those in front of its positions.
-fn doc_words_at(placed: &Placed, into: &mut Fetched) -> Result<(), FetchFault>
+fn doc_words_at(placed: &PlacedBlock, into: &mut Fetched) -> Result<(), FetchFault>
     requires judged { CanBeJudged placed.now placed.now.head.len }
     requires front { front_bytes placed.now.head ≤ length into.old.bytes.items }
 

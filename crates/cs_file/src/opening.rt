@@ -13,7 +13,7 @@ use crate::header::{Header, read_header};
 use crate::index::Index;
 use crate::judged::tried;
 use crate::part::BlockPart;
-use crate::parts::{bad_bound, bad_part, heads_of};
+use crate::parts::{bad_bound, bad_part, heads_by_parts};
 use crate::places::places_of;
 use crate::postings::read_blocks;
 use crate::titles::read_titles;
@@ -42,7 +42,7 @@ pub fn open_index<S: Store>(alloc: Global, store: &mut S) -> Result<Index, OpenF
     let named = read_directory(alloc, store, &header, words.as_slice())?;
     let parts = read_blocks(alloc, store, &header, &named)?;
     judge_parts(&header, words.as_slice(), &named, &parts)?;
-    let heads = heads_of(alloc, &parts)?;
+    let heads = heads_by_parts(alloc, &parts)?;
     let places = places_of(alloc, heads.as_slice())?;
     Ok(Index {
         docs: header.docs,

@@ -16,7 +16,7 @@ use cs_model_index::MAX_BLOCK_WORDS;
 use std::alloc::Global;
 
 /// What rules 18 and 19 ask of a block whose rows have these documents and words.
-pub(crate) fn part_of(
+pub(crate) fn block_part(
     alloc: Global,
     head: &BlockHead,
     docs: &[u32],
@@ -176,7 +176,7 @@ fn is_bound(head: &BlockHead, named: &BlockHead) -> bool
 }
 
 /// The heads of parts.
-pub(crate) fn heads_of(alloc: Global, parts: &[BlockPart]) -> Result<Seq<BlockHead>, Memory>
+pub(crate) fn heads_by_parts(alloc: Global, parts: &[BlockPart]) -> Result<Seq<BlockHead>, Memory>
     ensures { IfOk result (λ hs. hs ≡ map (λ p. p.head) parts.now) }
 {
     let mut heads = Vec::with_capacity(alloc, parts.len())?;

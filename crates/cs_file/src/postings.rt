@@ -16,7 +16,7 @@ ghost use Rattle.cs_file.specs.Parting.{bare, part_read, parts_by};
 use crate::fault::OpenFault;
 use crate::header::Header;
 use crate::part::BlockPart;
-use crate::parts::part_of;
+use crate::parts::block_part;
 use crate::reading::section;
 use crate::weights::weights_of;
 use cs_base::{BlockHead, Memory, Store, Weights};
@@ -121,7 +121,7 @@ fn judge_block(
     let mut rows = Cols::new(alloc);
     match decode(bytes, head, docs, weights, &mut rows) {
         Ok(()) => {
-            let part = part_of(alloc, head, rows.docs(), rows.words())?;
+            let part = block_part(alloc, head, rows.docs(), rows.words())?;
             Ok(part)
         }
         Err(BlockFault::Memory) => Err(OpenFault::Memory),

@@ -7,9 +7,9 @@ ghost use Rattle.cs_model_index.specs.FileRules.{tried};
 ghost use Rattle.cs_model_index.specs.Layout.{entry_size};
 ghost use Rattle.cs_model_index.specs.Sections.{image_of};
 ghost use Rattle.cs_file.specs.CallAnswers.{is_changed, is_read};
-ghost use Rattle.cs_file.specs.ImageSteps.{AreBlocksRead, AreTitlesRead, IsFilled, IsJudged, parts_break, parts_of};
+ghost use Rattle.cs_file.specs.ImageSteps.{AreBlocksRead, AreTitlesRead, IsFilled, IsJudged, parts_break, block_parts};
 ghost use Rattle.cs_file.specs.Indexes.{StandsFor, HasAllBlocks, CausedReads, titles_end};
-ghost use Rattle.cs_file.specs.ReadImages.{IsChangeBy, IsFileImage, ReadsImage, directory_place, entry_bytes_of, image_break};
+ghost use Rattle.cs_file.specs.WholeImages.{IsChangeBy, IsFileImage, ReadsImage, directory_place, entry_bytes_of, image_break};
 ghost use Rattle.cs_file.specs.Writable.{CanBeWritten};
 
 use crate::entries::Entries;
@@ -17,7 +17,7 @@ use crate::fault::FetchFault;
 use crate::image::Image;
 use crate::index::Index;
 use crate::part::BlockPart;
-use crate::parts::{bad_bound, bad_part, part_of};
+use crate::parts::{bad_bound, bad_part, block_part};
 use crate::titles::last;
 use cs_base::{BlockHead, Memory, Seq, Store, Text};
 use cs_cols::Cols;
@@ -145,12 +145,12 @@ fn all_parts(alloc: Global, heads: &[BlockHead], blocks: &[Cols]) -> Result<Vec<
     requires one_each { length blocks.now ≡ length heads.now }
     requires filled { All IsFilled (zip heads.now (map (λ c. c.posts) blocks.now)) }
 
-    ensures { IfOk result (λ v. v.items ≡ parts_of (zip heads.now (map (λ c. c.posts) blocks.now))) }
+    ensures { IfOk result (λ v. v.items ≡ block_parts (zip heads.now (map (λ c. c.posts) blocks.now))) }
 {
     let mut parts = Vec::with_capacity(alloc, heads.len())?;
     for k in 0..heads.len() {
         let block = &blocks[k];
-        parts.push(part_of(alloc, &heads[k], block.docs(), block.words())?)?;
+        parts.push(block_part(alloc, &heads[k], block.docs(), block.words())?)?;
     }
     Ok(parts)
 }

@@ -9,10 +9,10 @@ ghost use Rattle.cs_file.specs.Fetching.{CanBeJudged, IsFaultOf};
 ghost use Rattle.cs_file.specs.Indexes.{StandsFor, HasAllBlocks, block_posts};
 
 use crate::fault::FetchFault;
-use crate::fetching::{Placed, decode_at, read_over};
+use crate::fetching::{PlacedBlock, decode_at, read_over};
 use crate::index::Index;
 use cs_base::{Memory, Post, Store};
-use cs_block::{is_sought, read_sought};
+use cs_block::{are_sought, read_sought};
 use cs_cols::Cols;
 use std::alloc::Global;
 
@@ -79,7 +79,7 @@ impl Index {
 // Puts the posts of a block that are sought, whose bytes were read, into a list.
 fn sought_at(
     alloc: Global,
-    placed: &Placed,
+    placed: &PlacedBlock,
     words: (u32, u32),
     listed: &[bool],
     into: &mut Sought,
@@ -102,7 +102,7 @@ fn sought_at(
 // The same, with anything in the list behind a fault. Where a test fails the block is decoded.
 fn put_sought(
     alloc: Global,
-    placed: &Placed,
+    placed: &PlacedBlock,
     words: (u32, u32),
     listed: &[bool],
     into: &mut Sought,
@@ -145,7 +145,7 @@ fn seek_rows(
 {
     for i in 0..rows.len() {
         let post = rows.get(i);
-        if is_sought(post.doc, post.word, words.0, words.1, listed) {
+        if are_sought(post.doc, post.word, words.0, words.1, listed) {
             posts.push(post)?;
         }
     }

@@ -5,7 +5,7 @@ ghost use Rattle.cs_model.specs.Parameters.{parameter, is_count, count_of};
 ghost use Rattle.cs_query.specs.ParamNames.{param_name};
 ghost use Rattle.cs_http.specs.Refusing.{IsRefusedBy};
 
-use crate::first::first_value;
+use crate::first::parameter;
 use cs_base::MAX_COUNT_DIGITS;
 use cs_query::{Param, ReqFault};
 use cs_text::{has_digits, number_of};
@@ -23,7 +23,7 @@ pub(crate) fn count(
     ensures ok { IfOk result (λ n. n ≡ count_of default (parameter (param_name which) params.now)) }
     ensures err { IfErr result (λ e. IsRefusedBy which (is_count most (parameter (param_name which) params.now)) e) }
 {
-    let value = first_value(alloc, params, which.name())?;
+    let value = parameter(alloc, params, which.name())?;
     let Some(value) = value else {
         return Ok(default);
     };

@@ -8,7 +8,7 @@ ghost use Rattle.cs_model.specs.Parameters.{parameter, are_facets, facet_names};
 ghost use Rattle.cs_query.specs.declared.request.Param.TheVariants as which;
 ghost use Rattle.cs_http.specs.Refusing.{IsRefusedBy};
 
-use crate::first::first_value;
+use crate::first::parameter;
 use cs_base::{MAX_FACETS, Memory, Seq, Text};
 use cs_query::{Param, ReqFault};
 use cs_text::has_name_form;
@@ -20,7 +20,7 @@ pub(crate) fn facets(alloc: Global, params: &[u8]) -> Result<Seq<Text>, ReqFault
     ensures ok { IfOk result (λ names. names ≡ facet_names (parameter (codes "f") params.now)) }
     ensures err { IfErr result (λ e. IsRefusedBy which.F (are_facets (parameter (codes "f") params.now)) e) }
 {
-    let value = first_value(alloc, params, Param::F.name())?;
+    let value = parameter(alloc, params, Param::F.name())?;
     let Some(value) = value else {
         return Ok(Seq::new(alloc));
     };

@@ -20,7 +20,7 @@ pub(crate) fn announces_body(bytes: &[u8], fields: &[HeaderSpan]) -> bool
 }
 
 /// Whether a field Connection says that the connection is to be closed.
-pub(crate) fn says_close(bytes: &[u8], fields: &[HeaderSpan]) -> bool
+pub(crate) fn fields_say_close(bytes: &[u8], fields: &[HeaderSpan]) -> bool
     requires within { All (IsHeaderWithin (length bytes.now)) fields.now }
 
     ensures { result ≡ list_any (λ f. is_closing (header_bytes bytes.now f)) fields.now }

@@ -10,11 +10,7 @@ use std::alloc::Global;
 
 /// The decoded value of the first parameter of this name.
 #[tactic(auto, unfolding(cs_model::specs::Parameters::parameter))]
-pub(crate) fn first_value(
-    alloc: Global,
-    params: &[u8],
-    name: &str,
-) -> Result<Option<String>, Memory>
+pub(crate) fn parameter(alloc: Global, params: &[u8], name: &str) -> Result<Option<String>, Memory>
     ensures ok { IfOk result (λ o. option_map string_bytes o ≡ parameter name.now params.now) }
 {
     for pair in parse(alloc, params) {

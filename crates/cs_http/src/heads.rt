@@ -8,7 +8,7 @@ ghost use Rattle.cs_model_serving.specs.HeadReader.{IsHead, IsNoHead};
 ghost use Rattle.cs_model_serving.specs.Heads.{judge, asks, is_closing, path_of, params_of};
 ghost use Rattle.cs_http.specs.Judging.{IsHeadCause};
 
-use crate::fields::{announces_body, says_close};
+use crate::fields::{announces_body, fields_say_close};
 use cs_base::{MAX_HEAD_FIELDS, Seq};
 use httparse::Status;
 use httparse::spans::{EMPTY_HEADER_SPAN, HeaderSpan, RequestSpans, parse_request};
@@ -113,7 +113,7 @@ fn closes(version: u8, bytes: &[u8], fields: &[HeaderSpan]) -> bool
 
     ensures { result ≡ (version == 0 || list_any (λ f. is_closing (header_bytes bytes.now f)) fields.now) }
 {
-    version == 0 || says_close(bytes, fields)
+    version == 0 || fields_say_close(bytes, fields)
 }
 
 // The target before its first `?`, and what stands behind it.

@@ -10,7 +10,7 @@ ghost use Rattle.cs_http.specs.Refusing.{IsCause, IsQueryCause};
 
 use crate::counts::count;
 use crate::facets::facets;
-use crate::first::first_value;
+use crate::first::parameter;
 use cs_base::{DEFAULT_COMPLETIONS, DEFAULT_HITS, MAX_OFFSET, MAX_SHOWN, Query};
 use cs_query::{Param, QueryFault, ReqFault, Request, parse};
 use std::alloc::Global;
@@ -48,7 +48,7 @@ fn query(alloc: Global, params: &[u8]) -> Result<Query, ReqFault>
     ensures grammar { IfOk result IsOfGrammar }
     ensures err { IfErr result (λ e. IsQueryCause (first_refusal (chars (asked_text params.now))) e) }
 {
-    let text = first_value(alloc, params, "q")?;
+    let text = parameter(alloc, params, "q")?;
     let text = text.unwrap_or(String::new(alloc));
     match parse(alloc, text.as_str()) {
         Ok(query) => Ok(query),

@@ -67,8 +67,8 @@ use Rattle.cs_hub.specs.Speaking.{SaidOn, Spoke, Starved}
 use Rattle.cs_hub.specs.Streams.{RoseBy}
 use Rattle.cs_hub.specs.Turns.{Delivered, HoldsBytes, IsTurnedAway, IsSent}
 use Rattle.cs_hub.specs.declared.answer.Answer.{Answer}
-use Rattle.cs_hub.specs.declared.reading.Turn.{Turn}
-use Rattle.cs_hub.specs.declared.reading.Turn.TheVariants as turns
+use Rattle.cs_hub.specs.declared.reading.HeadTurn.{HeadTurn}
+use Rattle.cs_hub.specs.declared.reading.HeadTurn.TheVariants as turns
 use Rattle.cs_hub.proofs.ByLemmas.{are_both, are_one, by_all, by_behind, memory_part, whole_part}
 use Rattle.cs_hub.proofs.UnreadHeads.{closes_by, heads-closes, heads-goes_behind, heads-head, heads-long, heads-more, requests-none}
 use Rattle.cs_hub.proofs.ServedLemmas.{bytes_both}
@@ -452,7 +452,7 @@ module _ {K : Type 0} (Leaves : K → Request → Result Reply FetchFault → K 
           sent = before_stop c goes own (u ++ r) x.0 talk talk' a.asks.answered off (asks_below goes (requests_in (judge own)) s t a.asks) heads alone a.sent;
         }
 
-  pub turned_head : (c : ℕ) (u r : List ℕ) (skip end used : ℕ) (goes : Bool) (turn : Turn) (s t : K) (talk talk' : Option Talk)
+  pub turned_head : (c : ℕ) (u r : List ℕ) (skip end used : ℕ) (goes : Bool) (turn : HeadTurn) (s t : K) (talk talk' : Option Talk)
       → turn ≡ cond goes (turns.Next used) turns.Stops → Span u r skip end used
       → (goes ≡ true → closes_behind (judge (slice_range (u ++ take used r) skip (length (u ++ take used r)))) ≡ false)
       → AsksAsSent Leaves goes (requests_in (judge (slice_range (u ++ take used r) skip (length (u ++ take used r))))) s t
@@ -467,7 +467,7 @@ module _ {K : Type 0} (Leaves : K → Request → Result Reply FetchFault → K 
       → AsksAsSent Leaves false (requests_on b) s s (SentBefore c false b talk talk')
   starved_stops c b s talk talk' h = record { asks = asks_none (requests_on b) s; sent = want_before c b h.0 talk talk' h.1 }
 
-  pub turned_held : (c : ℕ) (u r u' : List ℕ) (turn : Turn) (s : K) (talk talk' : Option Talk) → frame (u ++ r) ≡ framed.More
+  pub turned_held : (c : ℕ) (u r u' : List ℕ) (turn : HeadTurn) (s : K) (talk talk' : Option Talk) → frame (u ++ r) ≡ framed.More
       → HoldsBytes c u r turn u' talk talk' → AsksBy Leaves c u r turn s s talk talk'
   turned_held c u r u' (turns.Next i) s talk talk' f h = absurd h
   turned_held c u r u' turns.Holds s talk talk' f h = (heads-more (u ++ r) f, refl, h.1)

@@ -16,7 +16,7 @@ use Rattle.std.proofs.lemmas.List.{ext_get_or, get_or-set_same, get_or-set_other
 use Rattle.std.proofs.lemmas.List.Sums.{sum_by-set, sum_by-append}
 use Rattle.std.proofs.lemmas.List.Folds.{sum_by-replicate}
 use Rattle.cs_model_serving.specs.Connections.{Left}
-use Rattle.cs_hub.specs.HubFollowing.{AreBelow, Lefts, left_at, slots_of}
+use Rattle.cs_hub.specs.HubFollowing.{AreKeptBelow, Lefts, left_at, slots_of}
 use Rattle.cs_hub.specs.Rounds.{IsAdded, weight, to_come}
 use Rattle.cs_hub.proofs.SpeakLemmas.{itself, by_conn, differs, same_conn}
 
@@ -64,7 +64,7 @@ pub length-slots_of : (kept : ℕ → Option Left) (n : ℕ) → length (slots_o
 length-slots_of kept zero = refl
 length-slots_of kept (suc n) = ap suc (length-slots_of (λ c. kept (suc c)) n)
 
-pub slots_at : (kept : ℕ → Option Left) (n : ℕ) → AreBelow kept n → (d : ℕ) → left_at (slots_of kept n) d ≡ kept d
+pub slots_at : (kept : ℕ → Option Left) (n : ℕ) → AreKeptBelow kept n → (d : ℕ) → left_at (slots_of kept n) d ≡ kept d
 slots_at kept zero below d = elim (kept d) as (λ x. kept d ≡ x → None ≡ x) [
   | None ↦ λ e. refl
   | Some l ↦ λ e. absurd (let h = below d (ap is_some e) in omega (arith, h))
@@ -72,7 +72,7 @@ slots_at kept zero below d = elim (kept d) as (λ x. kept d ≡ x → None ≡ x
 slots_at kept (suc n) below zero = refl
 slots_at kept (suc n) below (suc d) = slots_at (λ c. kept (suc c)) n (λ c h. let e = below (suc c) h in omega (arith, e)) d
 
-pub kept_at : (m : BTreeMap ℕ Left) (n : ℕ) (xs : Lefts) (c : ℕ) → AreBelow (get nat_cmp m) n → slots_of (get nat_cmp m) n ≡ xs → left_at xs c ≡ get nat_cmp m c
+pub kept_at : (m : BTreeMap ℕ Left) (n : ℕ) (xs : Lefts) (c : ℕ) → AreKeptBelow (get nat_cmp m) n → slots_of (get nat_cmp m) n ≡ xs → left_at xs c ≡ get nat_cmp m c
 kept_at m n xs c below e = ap (λ k. left_at k c) (sym e) ∙ slots_at (get nat_cmp m) n below c
 
 -- the entries of a map that has none, or some
@@ -85,7 +85,7 @@ some_in [] h = absurd (h refl)
 some_in (e ∷ es) h = (e.0, ap (λ b. is_some (cond b (Some e.1) (lookup (is_at (nat_cmp e.0)) es))) (unsigned_tied e.0 e.0 ∙ itself e.0))
 
 -- slots with the same at each number are the same
-same_slots : (xs : Lefts) (kept : ℕ → Option Left) (n : ℕ) → AreBelow kept n → length xs ≡ n → ((d : ℕ) → kept d ≡ left_at xs d) → slots_of kept n ≡ xs
+same_slots : (xs : Lefts) (kept : ℕ → Option Left) (n : ℕ) → AreKeptBelow kept n → length xs ≡ n → ((d : ℕ) → kept d ≡ left_at xs d) → slots_of kept n ≡ xs
 same_slots xs kept n below h same =
     ext_get_or None (slots_of kept n) xs (length-slots_of kept n ∙ sym h) (λ d within. slots_at kept n below d ∙ same d)
 
@@ -102,34 +102,34 @@ updated_at m m' c x u d =
     (λ other. u.2 d (unsigned_tied c d ∙ flipped c d other) ∙ sym (ap (λ b. cond b x (get nat_cmp m d)) other))
 
 -- a slot is set where the map changes at its number
-at_slot : (kept kept' : ℕ → Option Left) (n c : ℕ) (x : Option Left) → AreBelow kept n → ((d : ℕ) → kept' d ≡ cond (d == c) x (kept d)) → (d : ℕ)
+at_slot : (kept kept' : ℕ → Option Left) (n c : ℕ) (x : Option Left) → AreKeptBelow kept n → ((d : ℕ) → kept' d ≡ cond (d == c) x (kept d)) → (d : ℕ)
     → kept' d ≡ cond (d == c) x (left_at (slots_of kept n) d)
 at_slot kept kept' n c x below sets d = sets d ∙ ap (cond (d == c) x) (sym (slots_at kept n below d))
 
-below_set : (kept kept' : ℕ → Option Left) (n n' c : ℕ) (x : Option Left) → AreBelow kept n → ((d : ℕ) → kept' d ≡ cond (d == c) x (kept d)) → n ≤ n'
-    → (is_some x ≡ true → c < n') → AreBelow kept' n'
+below_set : (kept kept' : ℕ → Option Left) (n n' c : ℕ) (x : Option Left) → AreKeptBelow kept n → ((d : ℕ) → kept' d ≡ cond (d == c) x (kept d)) → n ≤ n'
+    → (is_some x ≡ true → c < n') → AreKeptBelow kept' n'
 below_set kept kept' n n' c x below sets more within = λ d.
     by_conn (λ d. is_some (kept' d) ≡ true → d < n') c d
     (λ h. within (sym (ap is_some (sets c ∙ ap (λ b. cond b x (kept c)) (itself c))) ∙ h))
     (λ other h. let e = below d (sym (ap is_some (sets d ∙ ap (λ b. cond b x (kept d)) other)) ∙ h) in omega (arith, e, more))
 
-pub removed_below : (m m' : BTreeMap ℕ Left) (n c : ℕ) → AreBelow (get nat_cmp m) n → Updates nat_cmp m m' c None → AreBelow (get nat_cmp m') n
+pub removed_below : (m m' : BTreeMap ℕ Left) (n c : ℕ) → AreKeptBelow (get nat_cmp m) n → Updates nat_cmp m m' c None → AreKeptBelow (get nat_cmp m') n
 removed_below m m' n c below u =
     below_set (get nat_cmp m) (get nat_cmp m') n n c None below (updated_at m m' c None u) (omega arith) (λ h. absurd cc)
 
-pub removed : (m m' : BTreeMap ℕ Left) (n c : ℕ) → AreBelow (get nat_cmp m) n → Updates nat_cmp m m' c None
+pub removed : (m m' : BTreeMap ℕ Left) (n c : ℕ) → AreKeptBelow (get nat_cmp m) n → Updates nat_cmp m m' c None
     → slots_of (get nat_cmp m') n ≡ slice_set (slots_of (get nat_cmp m) n) c None
 removed m m' n c below u =
     let xs : Lefts = slots_of (get nat_cmp m) n in
     same_slots (slice_set xs c None) (get nat_cmp m') n (removed_below m m' n c below u) (length-set xs c None ∙ length-slots_of (get nat_cmp m) n)
     (λ d. at_slot (get nat_cmp m) (get nat_cmp m') n c None below (updated_at m m' c None u) d ∙ sym (unset_at xs c d))
 
-pub added_below : (m m' : BTreeMap ℕ Left) (n n' c : ℕ) (l : Left) → AreBelow (get nat_cmp m) n → Updates nat_cmp m m' c (Some l) → n ≤ n' → c < n'
-    → AreBelow (get nat_cmp m') n'
+pub added_below : (m m' : BTreeMap ℕ Left) (n n' c : ℕ) (l : Left) → AreKeptBelow (get nat_cmp m) n → Updates nat_cmp m m' c (Some l) → n ≤ n' → c < n'
+    → AreKeptBelow (get nat_cmp m') n'
 added_below m m' n n' c l below u more within =
     below_set (get nat_cmp m) (get nat_cmp m') n n' c (Some l) below (updated_at m m' c (Some l) u) more (λ h. within)
 
-pub added : (m m' : BTreeMap ℕ Left) (n n' c : ℕ) (l : Left) → AreBelow (get nat_cmp m) n → Updates nat_cmp m m' c (Some l) → n ≤ n' → c < n'
+pub added : (m m' : BTreeMap ℕ Left) (n n' c : ℕ) (l : Left) → AreKeptBelow (get nat_cmp m) n → Updates nat_cmp m m' c (Some l) → n ≤ n' → c < n'
     → IsAdded (slots_of (get nat_cmp m) n) c l (slots_of (get nat_cmp m') n')
 added m m' n n' c l below u more within =
     let xs : Lefts = slots_of (get nat_cmp m) n in
@@ -149,7 +149,7 @@ added m m' n n' c l below u more within =
       inside,
     )
 
-pub replaced : (m m' : BTreeMap ℕ Left) (n c : ℕ) (l : Left) → AreBelow (get nat_cmp m) n → Updates nat_cmp m m' c (Some l)
+pub replaced : (m m' : BTreeMap ℕ Left) (n c : ℕ) (l : Left) → AreKeptBelow (get nat_cmp m) n → Updates nat_cmp m m' c (Some l)
     → is_some (left_at (slots_of (get nat_cmp m) n) c) ≡ true
     → slots_of (get nat_cmp m') n ≡ slice_set (slots_of (get nat_cmp m) n) c (Some l)
 replaced m m' n c l below u held =

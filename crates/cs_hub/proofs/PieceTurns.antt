@@ -22,7 +22,7 @@ use Rattle.cs_engine.specs.Keeping.{EngineView}
 use Rattle.cs_hub.specs.Asked.{LeavesIndex, StaysAnswering}
 use Rattle.cs_hub.specs.DueReads.{IsRest}
 use Rattle.cs_hub.specs.Speaking.{Calm, IsEnded}
-use Rattle.cs_hub.specs.Turns.{IsOne, IsAlong, Along, GoesOn, KeepsBelow, Kept, HoldsOn, Holds, Reads, Stops, Received}
+use Rattle.cs_hub.specs.Turns.{IsOne, IsAlong, Along, GoesOn, KeepsBelow, KeepsUnread, HoldsOn, Holds, Reads, Stops, Received}
 use Rattle.cs_hub.proofs.SpeakLemmas.{breaks_both, breaks_none, rose_none, spoke_nothing, says_both}
 use Rattle.cs_hub.proofs.ServedLemmas.{all_nil, zip_both, bytes_both, ended_behind}
 
@@ -78,7 +78,7 @@ all_held k b left unread' more sent waiting kept h =
     }
 
 pub along_hold : (Over : Corpus → Type 0) (c : ℕ) (b unread rest unread' : List ℕ) (m n o : ℕ) (talk mid talk' : Option Talk)
-    → Along Over c b (unread ++ rest) m n talk mid → Kept unread rest unread' n o mid talk' → Holds Over c b unread' m o talk talk'
+    → Along Over c b (unread ++ rest) m n talk mid → KeepsUnread unread rest unread' n o mid talk' → Holds Over c b unread' m o talk talk'
 along_hold Over c b unread rest unread' m n o talk mid talk' h s =
     subst (λ i. Holds Over c b unread' m i talk talk') (sym s.same) (subst (λ t. Holds Over c b unread' m n talk t) (sym s.untold) (record {
       more = h.more;

@@ -27,8 +27,8 @@ use Rattle.cs_model_serving.specs.Framing.{frame}
 use Rattle.cs_model_serving.specs.Responses.{Response, response_to, response_bytes, all_bytes, memory_bytes, too_long}
 use Rattle.cs_model_serving.proofs.ServeLemmas.{serve-head, serve-too_long}
 use Rattle.cs_model_serving.specs.Connections.{Served, serve, answered, answered_by, MayReplace, says_read, says_changed, reads, changes}
-use Rattle.cs_hub.specs.declared.reading.Turn.{Turn}
-use Rattle.cs_hub.specs.declared.reading.Turn.TheVariants.{Next, Holds, Stops as Closes}
+use Rattle.cs_hub.specs.declared.reading.HeadTurn.{HeadTurn}
+use Rattle.cs_hub.specs.declared.reading.HeadTurn.TheVariants.{Next, Holds, Stops as Closes}
 use Rattle.cs_hub.specs.declared.answer.Answer.{Answer}
 use Rattle.cs_hub.specs.Responding.{response}
 use Rattle.cs_hub.specs.Streams.{RoseBy}
@@ -268,7 +268,7 @@ served_by k u r skip end used s =
     serve-head k (u ++ r) skip end s.found
     ∙ ap₂ (λ h l. answered (response_to k h) l (serve k)) (sym (head_bytes u r skip end used s.total s.within s.front)) (behind_head u r end used s.total)
 
-pub turned_head : (Over : Corpus → Type 0) (c : ℕ) (u r u' : List ℕ) (skip end used : ℕ) (goes : Bool) (turn : Turn) (m n : ℕ) (talk talk' : Option Talk)
+pub turned_head : (Over : Corpus → Type 0) (c : ℕ) (u r u' : List ℕ) (skip end used : ℕ) (goes : Bool) (turn : HeadTurn) (m n : ℕ) (talk talk' : Option Talk)
     → turn ≡ cond goes (Next used) Closes → Span u r skip end used → m ≤ n → (goes ≡ true → u' ≡ [])
     → Replied Over c (λ k. response_to k (slice_range (u ++ take used r) skip (length (u ++ take used r)))) goes m n talk talk'
     → Turned Over c u r turn u' m n talk talk'
@@ -289,7 +289,7 @@ pub turned_long : (Over : Corpus → Type 0) (c : ℕ) (b : List ℕ) (m : ℕ) 
     → Stops Over c b m m talk talk'
 turned_long Over c b m talk talk' f h = refused_stops Over c b m talk talk' (λ k. serve-too_long k b f) h
 
-pub turned_held : (Over : Corpus → Type 0) (c : ℕ) (u r u' : List ℕ) (turn : Turn) (m : ℕ) (talk talk' : Option Talk) → frame (u ++ r) ≡ framed.More
+pub turned_held : (Over : Corpus → Type 0) (c : ℕ) (u r u' : List ℕ) (turn : HeadTurn) (m : ℕ) (talk talk' : Option Talk) → frame (u ++ r) ≡ framed.More
     → HoldsBytes c u r turn u' talk talk' → Turned Over c u r turn u' m m talk talk'
 turned_held Over c u r u' (Next i) m talk talk' f h = absurd h
 turned_held Over c u r u' Holds m talk talk' f h = record { waits = f; kept = h.0; untold = h.1; same = refl }

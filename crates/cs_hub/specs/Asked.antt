@@ -22,8 +22,8 @@ use Rattle.cs_model.specs.Replies.{Reply}
 use Rattle.cs_model.specs.Requests.{Request}
 use Rattle.cs_model_serving.specs.Heads.{judge}
 use Rattle.cs_model_serving.specs.Responses.{Response, all_bytes, memory_bytes, response_bytes}
-use Rattle.cs_hub.specs.declared.reading.Turn.{Turn}
-use Rattle.cs_hub.specs.declared.reading.Turn.TheVariants as turns
+use Rattle.cs_hub.specs.declared.reading.HeadTurn.{HeadTurn}
+use Rattle.cs_hub.specs.declared.reading.HeadTurn.TheVariants as turns
 use Rattle.cs_hub.specs.DueReads.{Answered, AreResponsesBy, HasMemory, IsDue, IsResponseBy, IsTextBy, SentBefore}
 use Rattle.cs_hub.specs.DueReads.{closes_behind, heads_on, requests_in, requests_of, requests_on, requests_to}
 use Rattle.cs_hub.specs.Speaking.{Spoke}
@@ -75,7 +75,7 @@ pub record SentFor (c : ℕ) (goes : Bool) (h : List ℕ) (talk talk' : Option T
   pub whole : goes ≡ true → (r : Response) × IsResponseBy h answered r × Spoke c (response_bytes r) false talk talk'
 
 -- a head was answered; or no head ends there, and nothing was asked or sent; or the connection is to be closed
-abbrev pub AsksBy : {K : Type 0} → (K → Request → Result Reply FetchFault → K → Type 0) → ℕ → List ℕ → List ℕ → Turn → K → K → Option Talk → Option Talk → Type 0
+abbrev pub AsksBy : {K : Type 0} → (K → Request → Result Reply FetchFault → K → Type 0) → ℕ → List ℕ → List ℕ → HeadTurn → K → K → Option Talk → Option Talk → Type 0
 AsksBy Leaves c unread rest (turns.Next used) s t talk talk' = AsksAlong Leaves c (unread ++ rest) (drop used rest) s t talk talk'
 AsksBy Leaves c unread rest turns.Holds s t talk talk' = (heads_on (unread ++ rest) ≡ []) × (t ≡ s) × (talk' ≡ talk)
 AsksBy Leaves c unread rest turns.Stops s t talk talk' = AsksAsSent Leaves false (requests_on (unread ++ rest)) s t (SentBefore c false (unread ++ rest) talk talk')

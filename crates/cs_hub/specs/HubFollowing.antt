@@ -5,11 +5,11 @@
 --   Lefts                    what is kept of connections, each at its number; None where nothing is
 --   left_at core c           that of connection c; None behind the last slot
 --   slots_of kept n          what a look-up by number has at the first n numbers
---   AreBelow kept n          it has nothing at the others
+--   AreKeptBelow kept n      it has nothing at the others
 --   HasLive core s           the connections that are kept are the live ones of the hub
 --   HasLiveBut core s e      the same before a step, but for the connection that the event opened or ended
 --   IsWhole e piece          the bytes are those of the event's piece
---   Heard                    from this state and talk the hub gave the event
+--   IsHeard                  from this state and talk the hub gave the event
 --   HasCause                 a connection that is kept didn't end; one that isn't has a cause
 --   IsRight                  how one connection stands, with these responses in the places of its answers
 --   AreRight                 each opened connection is right; at most n responses say Read
@@ -45,8 +45,8 @@ slots_of kept zero = []
 slots_of kept (suc n) = kept 0 ∷ slots_of (λ c. kept (suc c)) n
 
 -- it has something at numbers below n alone
-abbrev pub AreBelow : (ℕ → Option Left) → ℕ → Type 0
-AreBelow kept n = (c : ℕ) → is_some (kept c) ≡ true → c < n
+abbrev pub AreKeptBelow : (ℕ → Option Left) → ℕ → Type 0
+AreKeptBelow kept n = (c : ℕ) → is_some (kept c) ≡ true → c < n
 
 -- the live connections are those of which something is kept; of no slots there is none
 abbrev pub HasLive : Lefts → Listening → Type 0
@@ -70,7 +70,7 @@ IsWhole (Ended c) piece = Unit {0}
 IsWhole Over piece = Unit {0}
 
 -- the event is one that may come from the first state into a buffer of so many bytes, and a hub that tells its talk told it
-pub record Heard (s : Listening) (talk : Option Talk) (room : ℕ) (event : Event) (piece : List ℕ) (s' : Listening) (talk' : Option Talk) : Type 0 where
+pub record IsHeard (s : Listening) (talk : Option Talk) (room : ℕ) (event : Event) (piece : List ℕ) (s' : Listening) (talk' : Option Talk) : Type 0 where
   pub happens : Happens s room event s'
   pub came : talk' ≡ option_map (hears (came_of event piece)) talk
   pub orderly : IsOrderly s' talk'
@@ -114,7 +114,7 @@ pub record AreServed (k : Corpus) (s : Listening) (talk : Option Talk) (before n
 -- the step sent say Read at most as often as the count of failures rose
 pub record StaysRight (k : Corpus) (core core' : Lefts) (event : Event) (piece : List ℕ) (heard s' : Listening) (told talk' : Option Talk)
     (before now : ℕ) : Type 0 where
-  pub stays : (s : Listening) (talk : Option Talk) (room n : ℕ) → Follows k core s talk n → Heard s talk room event piece heard told
+  pub stays : (s : Listening) (talk : Option Talk) (room n : ℕ) → Follows k core s talk n → IsHeard s talk room event piece heard told
       → (more : ℕ) × Follows k core' s' talk' (n + more) × RoseBy more before now
 
 -- ---- isolation

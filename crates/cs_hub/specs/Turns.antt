@@ -8,7 +8,7 @@
 --   Replied                  the same of the response to a head, or memory ran out
 --   IsOne                    one response was sent, and later bytes are served behind it
 --   HoldsBytes, IsTurnedAway what was done where no head ends: the bytes were kept, or more can't come
---   GoesOn, Kept, Stops      what a turn did: a head was answered; none ends there; the connection is to be closed
+--   GoesOn, KeepsUnread, Stops  what a turn did: a head was answered; none ends there; the connection is to be closed
 --   Turned                   these by what the turn gave
 --   HoldsOn, Holds           all that is served was sent, and the connection goes on
 --   Reads                    what the bytes of a piece did, by whether the connection goes on
@@ -29,8 +29,8 @@ use Rattle.cs_model_serving.specs.Framing.{frame}
 use Rattle.cs_model_serving.specs.Responses.{Response, response_bytes, all_bytes, too_long}
 use Rattle.cs_model_serving.specs.Connections.{Left, MayReplace, serve, answers_on, reads, changes}
 use Rattle.cs_model_serving.specs.ServingLaws.{answers_before}
-use Rattle.cs_hub.specs.declared.reading.Turn.{Turn}
-use Rattle.cs_hub.specs.declared.reading.Turn.TheVariants as turns
+use Rattle.cs_hub.specs.declared.reading.HeadTurn.{HeadTurn}
+use Rattle.cs_hub.specs.declared.reading.HeadTurn.TheVariants as turns
 use Rattle.cs_hub.specs.declared.answer.Answer.{Answer}
 use Rattle.cs_hub.specs.Responding.{response}
 use Rattle.cs_hub.specs.DueReads.{IsRest}
@@ -93,14 +93,14 @@ pub record GoesOn (Over : Corpus → Type 0) (c used : ℕ) (unread rest unread'
   pub says : Says Over c false (λ k more sent. IsOne k (unread ++ rest) (drop used rest) more sent) before now talk talk'
 
 -- no head ends there, and the bytes are kept
-pub record Kept (unread rest unread' : List ℕ) (before now : ℕ) (talk talk' : Option Talk) : Type 0 where
+pub record KeepsUnread (unread rest unread' : List ℕ) (before now : ℕ) (talk talk' : Option Talk) : Type 0 where
   pub waits : frame (unread ++ rest) ≡ framed.More
   pub kept : unread' ≡ unread ++ rest
   pub untold : talk' ≡ talk
   pub same : now ≡ before
 
 -- bytes in which no head ends were kept, or memory ran out
-abbrev pub HoldsBytes : ℕ → List ℕ → List ℕ → Turn → List ℕ → Option Talk → Option Talk → Type 0
+abbrev pub HoldsBytes : ℕ → List ℕ → List ℕ → HeadTurn → List ℕ → Option Talk → Option Talk → Type 0
 HoldsBytes c unread rest (turns.Next n) unread' talk talk' = ⊥
 HoldsBytes c unread rest turns.Holds unread' talk talk' = (unread' ≡ unread ++ rest) × (talk' ≡ talk)
 HoldsBytes c unread rest turns.Stops unread' talk talk' = Starved c talk talk'
@@ -114,9 +114,9 @@ abbrev pub Stops : (Corpus → Type 0) → ℕ → List ℕ → ℕ → ℕ → 
 Stops Over c b before now talk talk' = (fails : Bool) × Says Over c fails (λ k more sent. IsEnded (serve k b) more fails sent) before now talk talk'
 
 -- by what the turn gave
-abbrev pub Turned : (Corpus → Type 0) → ℕ → List ℕ → List ℕ → Turn → List ℕ → ℕ → ℕ → Option Talk → Option Talk → Type 0
+abbrev pub Turned : (Corpus → Type 0) → ℕ → List ℕ → List ℕ → HeadTurn → List ℕ → ℕ → ℕ → Option Talk → Option Talk → Type 0
 Turned Over c unread rest (turns.Next used) unread' before now talk talk' = GoesOn Over c used unread rest unread' before now talk talk'
-Turned Over c unread rest turns.Holds unread' before now talk talk' = Kept unread rest unread' before now talk talk'
+Turned Over c unread rest turns.Holds unread' before now talk talk' = KeepsUnread unread rest unread' before now talk talk'
 Turned Over c unread rest turns.Stops unread' before now talk talk' = Stops Over c (unread ++ rest) before now talk talk'
 
 -- ---- pieces

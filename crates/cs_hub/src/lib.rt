@@ -17,5 +17,5 @@ mod serving;
 mod slots;
 mod steps;
 
-pub use serving::{ServeEnd, serve};
+pub use serving::{ServeEnd, serve_hub};
 pub use slots::Core;

@@ -5,7 +5,7 @@ ghost use Rattle.cs_base.specs.outside.Hub.{IsLive};
 ghost use Rattle.cs_hub.specs.{Asked.{AsksAsSent, StaysAnswering}, DueReads.{SentBefore, requests_on}, Speaking.{Calm}, Turns.{KeepsBelow, Reads, Received}};
 
 use crate::answerer::Answerer;
-use crate::reading::{Turn, Unread};
+use crate::reading::{HeadTurn, Unread};
 use cs_base::{Hub, MAX_CONNECTION_BYTES};
 use std::alloc::Global;
 use std::marker::Model;
@@ -101,9 +101,9 @@ fn read_on<A: Answerer, H: Hub>(
     let mut rest = piece;
     loop {
         match reading.turn(alloc, answerer, hub, conn, rest) {
-            Turn::Next(used) => rest = behind(rest, used),
-            Turn::Holds => return true,
-            Turn::Stops => return false,
+            HeadTurn::Next(used) => rest = behind(rest, used),
+            HeadTurn::Holds => return true,
+            HeadTurn::Stops => return false,
         }
     }
 }

@@ -18,7 +18,7 @@ use std::marker::Model;
 
 /// What a turn gave.
 #[derive(Clone, Copy, Debug, PartialEq, Eq)]
-pub(crate) enum Turn {
+pub(crate) enum HeadTurn {
     /// A head was answered, which ended behind so many bytes more.
     Next(usize),
     /// No head ends there.
@@ -67,7 +67,7 @@ impl Unread {
         hub: &mut H,
         conn: u32,
         rest: &[u8],
-    ) -> Turn
+    ) -> HeadTurn
         requires live { IsLive (H.state hub.old) conn }
 
         ensures turned { Turned (A.answers answerer.old) conn self.old rest.now result self.new (A.faults answerer.old) (A.faults answerer.new) (H.talk hub.old)
@@ -87,7 +87,7 @@ impl Unread {
             }
             Look::TooLong => {
                 refuse(alloc, hub, conn);
-                Turn::Stops
+                HeadTurn::Stops
             }
             Look::More(seen) => self.keep(hub, conn, rest, seen),
         }
@@ -103,7 +103,7 @@ impl Unread {
     }
 
     // Keeps bytes in which no head ends.
-    fn keep<H: Hub>(&mut self, hub: &mut H, conn: u32, rest: &[u8], seen: Seen) -> Turn
+    fn keep<H: Hub>(&mut self, hub: &mut H, conn: u32, rest: &[u8], seen: Seen) -> HeadTurn
         requires live { IsLive (H.state hub.old) conn }
         requires seen { IsOpen (self.old ++ rest.now) seen }
 
@@ -113,11 +113,11 @@ impl Unread {
         match self.unread.extend_from_slice(rest) {
             Ok(()) => {
                 self.seen = seen;
-                Turn::Holds
+                HeadTurn::Holds
             }
             Err(_) => {
                 starve(hub, conn);
-                Turn::Stops
+                HeadTurn::Stops
             }
         }
     }
@@ -157,10 +157,14 @@ impl Unread {
 }
 
 // A turn that answered a head, which ended behind so many bytes.
-fn turn_behind(goes: bool, used: usize) -> Turn
-    ensures { result ≡ cond goes (Turn.Next used) Turn.Stops }
+fn turn_behind(goes: bool, used: usize) -> HeadTurn
+    ensures { result ≡ cond goes (HeadTurn.Next used) HeadTurn.Stops }
 {
-    if goes { Turn::Next(used) } else { Turn::Stops }
+    if goes {
+        HeadTurn::Next(used)
+    } else {
+        HeadTurn::Stops
+    }
 }
 
 // Sends a response, or the memory response where there is none; true where the connection goes on.

@@ -6,7 +6,7 @@ ghost use Rattle.cs_base.specs.{declared.content.limits.TheConstants.{MAX_CONNEC
 ghost use Rattle.cs_engine.specs.Keeping.{AreGood};
 ghost use Rattle.cs_file.specs.Indexes.{HasAllBlocks, StandsFor};
 ghost use Rattle.cs_model_index.specs.Sections.{file_corpus};
-ghost use Rattle.cs_hub.specs.{Asked.{LeavesIndex}, Ending.{Ends}, HubFollowing.{AreServed}, Rounds.{came_by}, Speaking.{AreUnbroken}};
+ghost use Rattle.cs_hub.specs.{Asked.{LeavesIndex}, Ending.{EndsSo}, HubFollowing.{AreServed}, Rounds.{came_by}, Speaking.{AreUnbroken}};
 ghost use Rattle.cs_hub.specs.Totals.{AsksInAll};
 
 use crate::rounds::{Round, is_busy, take_turn};
@@ -31,7 +31,7 @@ pub enum ServeEnd {
 
 /// Serves so many connections of a hub that listens and has opened none, until all were opened and none is live, or nothing more
 /// comes.
-pub fn serve<S: Store, H: Hub>(
+pub fn serve_hub<S: Store, H: Hub>(
     alloc: Global,
     engine: &mut Engine,
     store: &mut S,
@@ -97,7 +97,7 @@ fn serve_with<S: Store, H: Hub>(
     ensures served { ForSome (S.bytes store.old) (λ b. StandsFor b engine.old.index → AreGood b engine.old
         → AreServed (file_corpus b) (H.state hub.new) (H.talk hub.new) (S.faults store.old) (S.faults store.new)) }
     ensures good { ForSome (S.bytes store.old) (λ b. StandsFor b engine.old.index → AreGood b engine.old → AreGood b engine.new) }
-    ensures ends { Ends result conns (H.state hub.old) (H.state hub.new) (H.faults hub.old) (H.faults hub.new) }
+    ensures ends { EndsSo result conns (H.state hub.old) (H.state hub.new) (H.faults hub.old) (H.faults hub.new) }
     ensures sends_later { H.send_faults hub.old ≤ H.send_faults hub.new }
     ensures unbroken { ¬ Rose (H.send_faults hub.old) (H.send_faults hub.new) → ForSome (H.talk hub.new) AreUnbroken }
     ensures some_memory { result ≢ ServeEnd.Memory }

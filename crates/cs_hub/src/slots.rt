@@ -22,7 +22,7 @@ impl Model for Core {
     ghost use Rattle.std.specs.Coded.{coded_list, coded_option};
     ghost use Rattle.std.specs.Ordering.{nat_cmp};
     ghost use Rattle.cs_model_serving.specs.Connections.{Left};
-    ghost use Rattle.cs_hub.specs.HubFollowing.{AreBelow, slots_of};
+    ghost use Rattle.cs_hub.specs.HubFollowing.{AreKeptBelow, slots_of};
     ghost use Rattle.cs_hub.specs.Speaking.{left_code};
 
     ghost Value = { List (Option Left) };
@@ -31,7 +31,7 @@ impl Model for Core {
 
     ghost view = { λ c. slots_of (get nat_cmp c.lines) c.end };
 
-    ghost invariant = { λ c. AreBelow (get nat_cmp c.lines) c.end };
+    ghost invariant = { λ c. AreKeptBelow (get nat_cmp c.lines) c.end };
 }
 
 impl Core {

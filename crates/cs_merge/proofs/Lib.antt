@@ -1,3 +1,3 @@
-pub mod FileLemmas
-pub mod MergeLemmas
-pub mod VocabularyLemmas
+pub mod FileRuleLemmas
+pub mod MergingLemmas
+pub mod MergedWordLemmas

@@ -6,8 +6,8 @@
 --   AcceptedAreMerged      the law that what is read of an index file is such an image
 --   FitTogether a b        the weights are the same, and documents, titles and rows of both are few enough
 --   words_refusal a b      the refusal of two images that differ in nothing and fit together, by their words
---   refusal_of e           the refusal that a fault names; None for want of memory
---   IsCause a b e          the first refusal of two images is the one that the fault names; want of memory has no cause
+--   merge_refusal_of e     the refusal that a fault names; None for want of memory
+--   NamesRefusal a b e     the first refusal of two images is the one that the fault names; want of memory has no cause
 use Rattle.std.specs.Prelude.{◌≡◌, ℕ, ◌+◌, ◌^◌, ◌<◌, ◌≤◌, true, nat_le, List, length, All, MatchOption, Option, Some, None}
 use Rattle.cs_base.specs.declared.content.limits.TheConstants.{MAX_DOCS, MAX_ROWS, MAX_WORDS}
 use Rattle.cs_model.specs.Corpus.{IsCorpus}
@@ -44,15 +44,15 @@ abbrev pub words_refusal : Image → Image → Option MergeRefusal
 words_refusal a b = unless (nat_le (length (words_of_both a b)) MAX_WORDS) too_many_words
 
 -- want of memory names none
-abbrev pub refusal_of : MergeFault → Option MergeRefusal
-refusal_of (Targets s t) = Some (targets_differ s t)
-refusal_of (WeightsDiffer v w) = Some (weights_differ v w)
-refusal_of TooManyDocs = Some too_many_docs
-refusal_of TitlesTooLarge = Some titles_too_large
-refusal_of TooManyRows = Some too_many_rows
-refusal_of TooManyWords = Some too_many_words
-refusal_of Memory = None
+abbrev pub merge_refusal_of : MergeFault → Option MergeRefusal
+merge_refusal_of (Targets s t) = Some (targets_differ s t)
+merge_refusal_of (WeightsDiffer v w) = Some (weights_differ v w)
+merge_refusal_of TooManyDocs = Some too_many_docs
+merge_refusal_of TitlesTooLarge = Some titles_too_large
+merge_refusal_of TooManyRows = Some too_many_rows
+merge_refusal_of TooManyWords = Some too_many_words
+merge_refusal_of Memory = None
 
 -- where e is no want of memory, there is a refusal
-abbrev pub IsCause : Image → Image → MergeFault → Type 0
-IsCause a b e = MatchOption (refusal_of e) (Unit {0}) (λ x. merge_refusal a b ≡ Some x)
+abbrev pub NamesRefusal : Image → Image → MergeFault → Type 0
+NamesRefusal a b e = MatchOption (merge_refusal_of e) (Unit {0}) (λ x. merge_refusal a b ≡ Some x)

@@ -2,8 +2,8 @@
 --
 -- Source: this engine's own.
 --
---   AreWords ws            each word has as many bytes as a word may have
---   at ws n                word n; past the last word the empty text
+--   AreOfWordSize ws       each word has as many bytes as a word may have
+--   nth_word ws n          word n; past the last word the empty text
 --   IsShift ws us shift    the numbers of the words of ws among us
 --   AreMerged a b m        the words of both, each once, and their numbers for the words of each
 --   Side a ws ns           the first words of a have the numbers ns among ws, and all of ws are below the next word of a
@@ -27,19 +27,19 @@ use Rattle.cs_base.specs.declared.content.limits.TheConstants.{MAX_WORD_BYTES}
 use Rattle.cs_merge.specs.declared.vocabulary.Merging.{Merging}
 
 -- from 1 to MAX_WORD_BYTES
-abbrev pub AreWords : List (List ℕ) → Type 0
-AreWords ws = All (λ w. (1 ≤ length w) × (length w ≤ MAX_WORD_BYTES)) ws
+abbrev pub AreOfWordSize : List (List ℕ) → Type 0
+AreOfWordSize ws = All (λ w. (1 ≤ length w) × (length w ≤ MAX_WORD_BYTES)) ws
 
 -- the first word has the number 0
-abbrev pub at : List (List ℕ) → ℕ → List ℕ
-at ws n = slice_index_or ws n []
+abbrev pub nth_word : List (List ℕ) → ℕ → List ℕ
+nth_word ws n = slice_index_or ws n []
 
 -- as many numbers as words, ascending, each that of its word; of no words there are none
 pub record IsShift (ws us : List (List ℕ)) (shift : List ℕ) : Type 0 where
   pub long : length shift ≡ length ws
   pub rises : AreDocs shift
   pub below : All (λ n. n < length us) shift
-  pub same : (n : ℕ) → n < length ws → at us (slice_index_or shift n 0) ≡ at ws n
+  pub same : (n : ℕ) → n < length ws → nth_word us (slice_index_or shift n 0) ≡ nth_word ws n
 
 -- each word once, by bytes, with its number for each vocabulary that has it; of two vocabularies without words there are none
 pub record AreMerged (a b : List (List ℕ)) (m : Merging) : Type 0 where
@@ -51,8 +51,8 @@ pub record AreMerged (a b : List (List ℕ)) (m : Merging) : Type 0 where
 -- as many words of a were taken as there are numbers, none before the first
 pub record Side (a ws : List (List ℕ)) (ns : List ℕ) : Type 0 where
   pub upto : length ns ≤ length a
-  pub below : (k : ℕ) → length ns ≤ k → k < length a → All (λ w. slice_cmp nat_cmp w (at a k) ≡ Less) ws
-  pub same : (n : ℕ) → n < length ns → at ws (slice_index_or ns n 0) ≡ at a n
+  pub below : (k : ℕ) → length ns ≤ k → k < length a → All (λ w. slice_cmp nat_cmp w (nth_word a k) ≡ Less) ws
+  pub same : (n : ℕ) → n < length ns → nth_word ws (slice_index_or ns n 0) ≡ nth_word a n
   pub small : All (λ n. n < length ws) ns
   pub rises : AreDocs ns
 
@@ -75,9 +75,9 @@ IsMore old new = length old.first.items + length old.second.items < length new.f
 
 -- the lesser word comes first; where one vocabulary has no word left, it is the other one's turn
 abbrev pub IsTurn : List (List ℕ) → List (List ℕ) → ℕ → ℕ → Ordering → Type 0
-IsTurn a b i j Less = (i < length a) × (j < length b → slice_cmp nat_cmp (at a i) (at b j) ≡ Less)
-IsTurn a b i j Greater = (j < length b) × (i < length a → slice_cmp nat_cmp (at b j) (at a i) ≡ Less)
-IsTurn a b i j Equal = (i < length a) × (j < length b) × (at a i ≡ at b j)
+IsTurn a b i j Less = (i < length a) × (j < length b → slice_cmp nat_cmp (nth_word a i) (nth_word b j) ≡ Less)
+IsTurn a b i j Greater = (j < length b) × (i < length a → slice_cmp nat_cmp (nth_word b j) (nth_word a i) ≡ Less)
+IsTurn a b i j Equal = (i < length a) × (j < length b) × (nth_word a i ≡ nth_word b j)
 
 -- also where both have the word
 abbrev pub is_first : Ordering → Bool
@@ -91,9 +91,9 @@ is_second _ = true
 
 -- that of the first where both have the word
 abbrev pub turn_word : List (List ℕ) → List (List ℕ) → ℕ → ℕ → Ordering → List ℕ
-turn_word a b i j Greater = at b j
-turn_word a b i j Less = at a i
-turn_word a b i j Equal = at a i
+turn_word a b i j Greater = nth_word b j
+turn_word a b i j Less = nth_word a i
+turn_word a b i j Equal = nth_word a i
 
 -- none where it doesn't hold
 abbrev pub own_numbers : Bool → ℕ → List ℕ

@@ -2,6 +2,6 @@
 ghost use Rattle.cs_merge.specs.Merging.{AcceptedAreMerged};
 
 /// The image that is read of an index file is one that `merge` takes.
-pub fn files()
+pub fn files_are_taken()
     ensures { AcceptedAreMerged }
 {}

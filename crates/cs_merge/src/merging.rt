@@ -5,7 +5,7 @@ ghost use Rattle.cs_file.specs.Writable.{CanBeWritten};
 ghost use Rattle.cs_model_index.specs.FileLaws.{HasLimits};
 ghost use Rattle.cs_model_index.specs.Layout.{title_bytes};
 ghost use Rattle.cs_model_merge.specs.Merges.{IsMerge, are_same, merge_refusal};
-ghost use Rattle.cs_merge.specs.Merging.{FitTogether, IsCause, IsOfFile, words_refusal};
+ghost use Rattle.cs_merge.specs.Merging.{FitTogether, NamesRefusal, IsOfFile, words_refusal};
 
 use crate::fault::MergeFault;
 use crate::vocabulary::{Merging, merged};
@@ -29,7 +29,7 @@ pub fn merge(alloc: Global, a: &Image, b: &Image) -> Result<Image, MergeFault>
     ensures accepted { OnOk result (merge_refusal a.now b.now ≡ None) }
 
     // want of memory has no cause
-    ensures err { IfErr result (IsCause a.now b.now) }
+    ensures err { IfErr result (NamesRefusal a.now b.now) }
 
     // it can be written, and its file is an index file
     ensures writable { IfOk result CanBeWritten }
@@ -54,7 +54,7 @@ pub fn merge(alloc: Global, a: &Image, b: &Image) -> Result<Image, MergeFault>
 fn judge(a: &Image, b: &Image) -> Result<(), MergeFault>
     ensures ok { OnOk result (merge_refusal a.now b.now ≡ words_refusal a.now b.now) }
     ensures fit { OnOk result (FitTogether a.now b.now) }
-    ensures err { IfErr result (IsCause a.now b.now) }
+    ensures err { IfErr result (NamesRefusal a.now b.now) }
 {
     if a.target != b.target {
         return Err(MergeFault::Targets {

@@ -4,7 +4,7 @@ ghost use Rattle.std.specs.List.Sorted.{IsStrictlySortedBy};
 ghost use Rattle.std.specs.Ordering.{nat_cmp};
 ghost use Rattle.std.specs.Cmp.Lexicographic.{slice_cmp};
 ghost use Rattle.cs_base.specs.declared.content.limits.TheConstants.{MAX_ROWS};
-ghost use Rattle.cs_merge.specs.Vocabularies.{AreMerged, AreWords, IsMerging, IsMore, IsTurn, is_done, is_first, is_second, own_numbers, turn_word};
+ghost use Rattle.cs_merge.specs.Vocabularies.{AreMerged, AreOfWordSize, IsMerging, IsMore, IsTurn, is_done, is_first, is_second, own_numbers, turn_word};
 
 use cs_base::{Memory, Word};
 use cs_vocab::Vocab;
@@ -24,8 +24,8 @@ pub(crate) struct Merging {
 
 /// The words of two vocabularies, each once, and the number of each word of either among them.
 pub(crate) fn merged(alloc: Global, a: &Vocab, b: &Vocab) -> Result<Merging, Memory>
-    requires a_words { AreWords a.now }
-    requires b_words { AreWords b.now }
+    requires a_words { AreOfWordSize a.now }
+    requires b_words { AreOfWordSize b.now }
 
     ensures { IfOk result (AreMerged a.now b.now) }
 {
@@ -57,8 +57,8 @@ fn is_done(a: &Vocab, b: &Vocab, merging: &Merging) -> bool
 
 // One word more: the lesser of the next two, or both where they are the same.
 fn step(alloc: Global, a: &Vocab, b: &Vocab, merging: Merging) -> Result<Merging, Memory>
-    requires a_words { AreWords a.now }
-    requires b_words { AreWords b.now }
+    requires a_words { AreOfWordSize a.now }
+    requires b_words { AreOfWordSize b.now }
     requires a_rises { IsStrictlySortedBy (slice_cmp nat_cmp) a.now }
     requires b_rises { IsStrictlySortedBy (slice_cmp nat_cmp) b.now }
     requires a_few { length a.now ≤ MAX_ROWS }
@@ -101,8 +101,8 @@ fn word_at_turn(
     j: u32,
     turn: Ordering,
 ) -> Result<Word, Memory>
-    requires a_words { AreWords a.now }
-    requires b_words { AreWords b.now }
+    requires a_words { AreOfWordSize a.now }
+    requires b_words { AreOfWordSize b.now }
     requires turn { IsTurn a.now b.now i j turn }
 
     ensures { IfOk result (λ w. w ≡ turn_word a.now b.now i j turn) }
@@ -115,7 +115,7 @@ fn word_at_turn(
 
 // Word `n` once more.
 fn copy_at(alloc: Global, words: &Vocab, n: u32) -> Result<Word, Memory>
-    requires words { AreWords words.now }
+    requires words { AreOfWordSize words.now }
     requires in_range { n < length words.now }
 
     ensures { IfOk result (λ w. w ≡ slice_index_or words.now n []) }

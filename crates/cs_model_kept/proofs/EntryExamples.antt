@@ -13,7 +13,7 @@ use Rattle.cs_model.specs.Words.{is_word_char}
 use Rattle.cs_model.specs.Grammar.{query_of}
 use Rattle.cs_model.proofs.AnswersExamples.{row, worked, titles-are, typ_rows}
 use Rattle.cs_model.proofs.AnswersLemmas.{query_rolled, part_listed, chain_rolled, prefix_rows}
-use Rattle.cs_model_kept.specs.Entries.{entry_of, entry_size}
+use Rattle.cs_model_kept.specs.Entries.{entry_of, kept_entry_size}
 use Rattle.cs_model_kept.specs.KeptList.{kept_by}
 
 abbrev listed_at : ℕ → ℕ → Scored
@@ -51,11 +51,11 @@ unfolding entry_of
 entry-empty = simp query_rolled refl
 
 -- rows and listed documents are counted together, and All lists none
-size-one : entry_size (entry_of worked (query_of (codes "typ"))) ≡ 4
-size-one = ap entry_size entry-one
+size-one : kept_entry_size (entry_of worked (query_of (codes "typ"))) ≡ 4
+size-one = ap kept_entry_size entry-one
 
-size-two : entry_size (entry_of worked (query_of (codes "search typ"))) ≡ 4
-size-two = ap entry_size entry-two
+size-two : kept_entry_size (entry_of worked (query_of (codes "search typ"))) ≡ 4
+size-two = ap kept_entry_size entry-two
 
 -- so it is kept
 kept-two : kept_by Fresh (entry_of worked (query_of (codes "search typ"))) ≡ kept.Kept

@@ -14,7 +14,7 @@
 --   entry k ps, entry_of k q  what is kept of parts, and of a query: the base of the parts before a positive last one, and the
 --                             pairs; of the empty query All and no rows
 --   listed_count b            how many documents a base lists; 0 for All
---   entry_size e              the rows and the listed documents of an entry, counted together
+--   kept_entry_size e         the rows and the listed documents of an entry, counted together
 --   over b rows               each document of rows, with its score in the base and the greatest score of its rows
 --   hits_of positive e        the hits of the query whose entry e is, as a base; positive says whether its last part is
 --   listed k b                the documents of a base with their scores; for All each document of the corpus with the score 0
@@ -86,8 +86,8 @@ listed_count base.All = 0
 listed_count (base.Listed hs) = length hs
 
 -- the rows of an entry and the documents that its base lists, counted together; 0 for All and no rows
-abbrev pub entry_size : {R : Type 0} → EntryOf R → ℕ
-entry_size e = length e.rows + listed_count e.base
+abbrev pub kept_entry_size : {R : Type 0} → EntryOf R → ℕ
+kept_entry_size e = length e.rows + listed_count e.base
 
 -- ---- hits out of an entry
 -- the documents of rows by number, each with what the base gives it and the greatest score of its rows; none of no rows

@@ -22,7 +22,7 @@
 --   is_same plan          whether the plan is Same, so that the query's own entry is held
 --   kept_fresh e          what becomes of an entry that wasn't had: too large, or kept
 --   kept_by plan e        what becomes of a query's own entry e
---   after_own held room q k       the list after the query q, whose own entry is kept where its entry_size allows
+--   after_own held room q k       the list after the query q, whose own entry is kept where its kept_entry_size allows
 --   plans k room held qs  the plans of the queries qs, asked one after the other from the list held on
 use Rattle.std.specs.Prelude.{◌≡◌, ℕ, Bool, true, false, not, nat_lt, if◌then◌else◌, List, [], ◌∷◌, ◌++◌, ◌==◌, map, filter, find, take, Option, Some, None}
 use Rattle.std.specs.List.{All, IsDistinct, list_any}
@@ -41,7 +41,7 @@ use Rattle.cs_model.specs.Corpus.{Corpus}
 use Rattle.cs_model.specs.Keys.{keys_of}
 use Rattle.cs_model.specs.Refusals.{IsOfGrammar}
 use Rattle.cs_model_kept.specs.declared.limits.TheConstants.{MAX_ENTRY_SIZE}
-use Rattle.cs_model_kept.specs.Entries.{Entry, EntryOf, entry_at, entry_of, entry_size}
+use Rattle.cs_model_kept.specs.Entries.{Entry, EntryOf, entry_at, entry_of, kept_entry_size}
 
 -- entries under the keys of their queries, each told by an E, the one used last in front; there may be none
 abbrev pub KeptOf : Type 0 → Type 0
@@ -130,7 +130,7 @@ is_same _ = false
 
 -- an entry that wasn't had is kept, unless its size is above `MAX_ENTRY_SIZE`
 abbrev pub kept_fresh : {R : Type 0} → EntryOf R → Kept
-kept_fresh e = if nat_lt MAX_ENTRY_SIZE (entry_size e) then kept.TooLarge else kept.Kept
+kept_fresh e = if nat_lt MAX_ENTRY_SIZE (kept_entry_size e) then kept.TooLarge else kept.Kept
 
 -- what becomes of a query's own entry: it was had where the plan is Same, and else it is kept where its size is at most
 -- `MAX_ENTRY_SIZE`

@@ -20,7 +20,7 @@ use Rattle.httparse.specs.Grammar.{LineEnd, crlf, lf, print_end, print_blank, pr
 use Rattle.cs_base.specs.declared.content.limits.TheConstants.{MAX_HEAD_FIELDS}
 use Rattle.cs_model.specs.Collection.{is_colon, is_space}
 use Rattle.cs_model_serving.specs.Framing.{ended_lines, is_empty_line, front_lines, later_lines, text_lines, closing_lines}
-use Rattle.cs_model_serving.specs.HeadReader.{IsHead, ends_in_return, line_text, line_end, field_of, version_of, head_by, lines_head, is_field, is_valid, tested, read_head}
+use Rattle.cs_model_serving.specs.HeadReader.{IsHead, ends_in_return, line_text, line_end, line_field, version_of, head_by, lines_head, is_head_field, is_valid, tested, read_head}
 use Rattle.cs_model_serving.proofs.LineLemmas.{HasNoFeed, ended_first, ended_none, no_feed_nil}
 
 -- ---- the first that passes
@@ -282,7 +282,7 @@ ends_blank : (ends : List LineEnd) → map line_end (map cr ends) ≡ ends
 ends_blank [] = refl
 ends_blank (e ∷ ends) = ap₂ (λ a b. a ∷ b) (line_end-cr [] e (no_byte 13)) (ends_blank ends)
 
-field_read : (f : Field) → IsField f → field_of (field_line f) ≡ f
+field_read : (f : Field) → IsField f → line_field (field_line f) ≡ f
 field_read f is =
     let no_return = field_without 13 f is token_return refl refl in
     let text = line_text-cr (field_text f) f.end no_return in
@@ -292,7 +292,7 @@ field_read f is =
     let end = line_end-cr (field_text f) f.end no_return in
     λ i. record { name = name i; raw = raw i; end = end i }
 
-fields_read : (fields : List Field) → All IsField fields → map field_of (map field_line fields) ≡ fields
+fields_read : (fields : List Field) → All IsField fields → map line_field (map field_line fields) ≡ fields
 fields_read [] is = refl
 fields_read (f ∷ fields) is = ap₂ (λ a b. a ∷ b) (field_read f (All-head IsField f fields is)) (fields_read fields (All-tail IsField f fields is))
 
@@ -369,25 +369,25 @@ word_test p bytes h all = both _ _ (positive (length bytes) h) (list_all-from_Al
 word_from : (p : ℕ → Bool) (bytes : List ℕ) → (nat_lt 0 (length bytes) && list_all p bytes) ≡ true → (0 < length bytes) × AllPass p bytes
 word_from p bytes e = (from_positive (length bytes) (left _ _ e), AllPass-from_list_all p bytes (right (nat_lt 0 (length bytes)) _ e))
 
-field_test : (f : Field) → IsField f → is_field f ≡ true
+field_test : (f : Field) → IsField f → is_head_field f ≡ true
 field_test f is = both _ _ (word_test is_token_byte f.name is.name.0 is.name.1) (list_all-from_AllPass is_value_byte f.raw is.raw)
 
-field_from : (f : Field) → is_field f ≡ true → IsField f
+field_from : (f : Field) → is_head_field f ≡ true → IsField f
 field_from f e = record { name = word_from is_token_byte f.name (left _ _ e); raw = AllPass-from_list_all is_value_byte f.raw (right (is_token f.name) _ e) }
 
-fields_test : (fields : List Field) → All IsField fields → list_all is_field fields ≡ true
+fields_test : (fields : List Field) → All IsField fields → list_all is_head_field fields ≡ true
 fields_test [] is = refl
 fields_test (f ∷ fields) is = both _ _ (field_test f (All-head IsField f fields is)) (fields_test fields (All-tail IsField f fields is))
 
-fields_from : (fields : List Field) → list_all is_field fields ≡ true → All IsField fields
-fields_from fields e = λ k d less. field_from (get_or fields k d) (AllPass-from_list_all is_field fields e k d less)
+fields_from : (fields : List Field) → list_all is_head_field fields ≡ true → All IsField fields
+fields_from fields e = λ k d less. field_from (get_or fields k d) (AllPass-from_list_all is_head_field fields e k d less)
 
 -- the parts of `is_valid`
 abbrev is_target : RequestHead → Bool
 is_target h = nat_lt 0 (length h.target) && (list_all is_uri_byte h.target && is_utf8 h.target)
 
 abbrev has_tail : RequestHead → Bool
-has_tail h = nat_le h.minor 1 && list_all is_field h.fields
+has_tail h = nat_le h.minor 1 && list_all is_head_field h.fields
 
 valid_test : (h : RequestHead) → IsRequestHead h → is_valid h ≡ true
 unfolding is_valid
@@ -407,7 +407,7 @@ valid_from h e =
       method = word_from is_token_byte h.method (left (is_token h.method) (is_target h) front);
       target = (from_positive (length h.target) (left _ (list_all is_uri_byte h.target && is_utf8 h.target) target), AllPass-from_list_all is_uri_byte h.target (left _ (is_utf8 h.target) bytes));
       target_text = IsUtf8-from_is_utf8 h.target (right (list_all is_uri_byte h.target) _ bytes);
-      minor = from_at_most h.minor 1 (left _ (list_all is_field h.fields) tail);
+      minor = from_at_most h.minor 1 (left _ (list_all is_head_field h.fields) tail);
       fields = fields_from h.fields (right (nat_le h.minor 1) _ tail);
     }
 

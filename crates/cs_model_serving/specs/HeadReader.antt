@@ -8,11 +8,11 @@
 --   ends_in_return l    whether the line's last byte is CR
 --   line_text l         a line without the CR at its end, of which there may be none
 --   line_end l          how the line ends: CR LF or LF
---   field_of l          the field that a line can be: the name before its first colon, the value behind it
+--   line_field l        the field that a line can be: the name before its first colon, the value behind it
 --   version_of text     the minor version that the bytes of a version end with
 --   head_by             the head that lines can be: empty lines in front, the start line, lines of fields, the closing line
 --   lines_head lines    the only head that lines can be
---   is_field f          the name is a token, and each byte of the value may stand in one
+--   is_head_field f     the name is a token, and each byte of the value may stand in one
 --   is_valid h          each part of the head is of its class
 --   tested bytes h      the guess h, where it is valid, printed as the bytes and has few enough fields
 --   read_head bytes     the head that the bytes are; None where they are none, as no bytes are
@@ -51,8 +51,8 @@ line_end l = if ends_in_return l then crlf else lf
 
 -- ---- the guess
 -- the field that a line can be; without a colon its value is empty
-abbrev pub field_of : List ℕ → Field
-field_of l = record {
+abbrev pub line_field : List ℕ → Field
+line_field l = record {
   name = before_first is_colon (line_text l);
   raw = after_first is_colon (line_text l);
   end = line_end l;
@@ -70,7 +70,7 @@ head_by front start fields closing = record {
   target = before_first is_space (after_first is_space (line_text start));
   minor = version_of (after_first is_space (after_first is_space (line_text start)));
   line_end = line_end start;
-  fields = map field_of fields;
+  fields = map line_field fields;
   last = line_end closing;
 }
 
@@ -80,14 +80,14 @@ lines_head lines = head_by (front_lines lines) (slice_index_or (text_lines lines
 
 -- ---- the test
 -- the name is a token, and each byte of the value may stand in one
-abbrev pub is_field : Field → Bool
-is_field f = is_token f.name && list_all is_value_byte f.raw
+abbrev pub is_head_field : Field → Bool
+is_head_field f = is_token f.name && list_all is_value_byte f.raw
 
 -- each part is of its class: the target has a byte and is UTF-8, the version is HTTP/1.0 or HTTP/1.1
 unfoldable pub is_valid : RequestHead → Bool
 is_valid h =
     is_token h.method && (nat_lt 0 (length h.target) && (list_all is_uri_byte h.target && is_utf8 h.target))
-    && (nat_le h.minor 1 && list_all is_field h.fields)
+    && (nat_le h.minor 1 && list_all is_head_field h.fields)
 
 -- the guess, where it is valid, is printed as the bytes and has few enough fields
 abbrev pub tested : List ℕ → RequestHead → Option RequestHead

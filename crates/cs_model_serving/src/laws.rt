@@ -25,7 +25,7 @@ pub fn prefixes_are_answered()
 {}
 
 /// The memory response, which is sent without memory, is a response like the others.
-pub fn memory_response()
+pub fn memory_response_is_constant()
     ensures { MemoryIsConstant }
 {}
 

@@ -6,8 +6,8 @@ use Rattle.std.specs.Prelude.{nat_lt, nat_le, min, fold, ◌||◌, ◌&&◌}
 use Rattle.std.proofs.lemmas.Bool.Decides.{nat_tests}
 use Rattle.std.specs.List.{list_any, list_all, range_with_len}
 use Rattle.cs_model_excerpts.specs.Runs.{IsBest, IsShortest, covers, has_mark_at, has_mark_within}
-use Rattle.cs_more.specs.RunSearch.{better_run, chosen_run, last_start, places_of, reach}
-use Rattle.cs_more.specs.declared.runs.Run.{Run}
+use Rattle.cs_more.specs.RunSearch.{better_run, chosen_run, last_start, seen_run, reach}
+use Rattle.cs_more.specs.declared.runs.WordRun.{WordRun}
 use Rattle.std.specs.Option.{IfSome, option_map}
 
 reach-within : (marks : List Bool) (i : ℕ) → reach marks i ≤ i
@@ -234,6 +234,6 @@ one_further parts n s best now e is w =
     rw (next, is) found
 
 -- the best run is a run of these words
-pub best-within : (parts : List (List Bool)) (n words : ℕ) (best : Option Run) → n ≤ words → IsBest parts n (option_map places_of best) → IfSome best (λ r. (r.first ≤ r.last) × (r.last < words))
+pub best-within : (parts : List (List Bool)) (n words : ℕ) (best : Option WordRun) → n ≤ words → IsBest parts n (option_map seen_run best) → IfSome best (λ r. (r.first ≤ r.last) × (r.last < words))
 best-within parts n words None l h = tt
 best-within parts n words (Some r) l h = (h.forward, omega (arith, h.below, l))

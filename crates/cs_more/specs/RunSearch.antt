@@ -1,6 +1,6 @@
 -- What one pass over the words knows on its way to the shortest run.
 --
---   places_of r                   a run by its first and its last place
+--   seen_run r                    a run by its first and its last place
 --   reach marks i                 how many words end with the last one among the first i that has a mark; 0 where none has
 --   last_start parts i            before how many words a run must begin that ends with word i, counted from 1, and covers
 --   shorter_run a b               the shorter run, and a where they have one length
@@ -9,11 +9,11 @@
 --                                 best one stays where start is 0
 use Rattle.std.specs.Prelude.{ℕ, zero, suc, ◌-◌, Bool, nat_le, if◌then◌else◌, List, map, min, fold, Option, Some, None}
 use Rattle.cs_model_excerpts.specs.Runs.{has_mark_at}
-use Rattle.cs_more.specs.declared.runs.Run.{Run}
+use Rattle.cs_more.specs.declared.runs.WordRun.{WordRun}
 
 -- a run as the definitions have it
-abbrev pub places_of : Run → ℕ × ℕ
-places_of r = (r.first, r.last)
+abbrev pub seen_run : WordRun → ℕ × ℕ
+seen_run r = (r.first, r.last)
 
 -- of the first i words those up to the last one with a mark, by their number
 unfoldable pub reach : List Bool → ℕ → ℕ

@@ -7,9 +7,9 @@ ghost use Rattle.cs_model_sources.specs.CsvSources.{flat_of_csv};
 ghost use Rattle.cs_more.specs.RecordsLeft.{StandsBetween, record_line, records_left};
 ghost use Rattle.cs_more.specs.declared.fault.FlatFault.TheVariants.{TooLarge};
 
-use crate::document_line::{push_document, usual_weights_line};
+use crate::document_line::{push_document_line, usual_weights_line};
 use crate::fault::FlatFault;
-use crate::header::{HeaderColumns, columns_of, field_in};
+use crate::header::{HeaderColumns, field_in, header_columns};
 use crate::records::{next_record, records_in};
 use cs_base::{MAX_COLLECTION_BYTES, Seq};
 use cs_model_sources::{BadLine, Flat, Why};
@@ -40,7 +40,7 @@ pub fn flat_csv(alloc: Global, source: &[u8]) -> Result<Flat, FlatFault>
             bad: None,
         });
     }
-    let Some(columns) = columns_of(&fields) else {
+    let Some(columns) = header_columns(&fields) else {
         return Ok(Flat {
             tsv: Seq::from_vec(tsv),
             bad: Some(BadLine {
@@ -91,6 +91,6 @@ fn push_record(
     let title = field_in(fields, columns.title);
     let facets = field_in(fields, columns.facets);
     let text = field_in(fields, columns.text);
-    push_document(tsv, title, facets, text)?;
+    push_document_line(tsv, title, facets, text)?;
     Ok(())
 }

@@ -46,7 +46,7 @@ fn push_end(tsv: &mut Vec<u8>) -> Result<(), Memory>
 }
 
 /// Adds the line of a document.
-pub(crate) fn push_document(
+pub(crate) fn push_document_line(
     tsv: &mut Vec<u8>,
     title: &[u8],
     facets: &[u8],

@@ -9,10 +9,10 @@ ghost use Rattle.cs_model.specs.Words.{words};
 ghost use Rattle.cs_model_excerpts.specs.Excerpts.{bracketed, is_positive, is_textual, own_excerpt, run_text, textual};
 ghost use Rattle.cs_model_excerpts.specs.OwnWords.{part_marks};
 ghost use Rattle.cs_model_excerpts.specs.Runs.{has_mark_at};
-ghost use Rattle.cs_more.specs.RunSearch.{places_of};
+ghost use Rattle.cs_more.specs.RunSearch.{seen_run};
 
 use crate::marks::{has_mark_at, part_marks};
-use crate::runs::{Run, shortest_run};
+use crate::runs::{WordRun, shortest_run};
 use cs_base::{Doc, Memory, Part, Query, Seq, Text, Word};
 use cs_docs::LentDoc;
 use cs_model_excerpts::MAX_EXCERPT_WORDS;
@@ -22,7 +22,7 @@ use std::alloc::Global;
 /// The shortest run of a document's text words that has a word of each positive part of a query that some text word
 /// serves, of those of one length the first, cut to its first `MAX_EXCERPT_WORDS` words. A word that serves such a part
 /// stands between brackets. It is the empty text where no text word serves a positive part.
-pub fn excerpt(alloc: Global, doc: &Doc, query: &Query) -> Result<Text, Memory>
+pub fn own_excerpt(alloc: Global, doc: &Doc, query: &Query) -> Result<Text, Memory>
     // A document of a collection has no more.
     requires few { length (words doc.now.text) ≤ MAX_DOC_WORDS }
 
@@ -32,7 +32,7 @@ pub fn excerpt(alloc: Global, doc: &Doc, query: &Query) -> Result<Text, Memory>
     Ok(text)
 }
 
-/// The excerpt of a document whose columns are lent, as `excerpt` gives it.
+/// The excerpt of a document whose columns are lent, as `own_excerpt` gives it.
 pub fn lent_excerpt(alloc: Global, doc: &LentDoc<'_>, query: &Query) -> Result<Text, Memory>
     // A document of a collection has no more.
     requires few { length (words doc.now.text.now) ≤ MAX_DOC_WORDS }
@@ -107,11 +107,16 @@ fn is_textual(marks: &[bool]) -> bool
 }
 
 // The first words of a run, with a space between each two, and brackets around those that serve a part.
-fn run_text(alloc: Global, words: &[Word], marks: &[Seq<bool>], run: Run) -> Result<Text, Memory>
+fn run_text(
+    alloc: Global,
+    words: &[Word],
+    marks: &[Seq<bool>],
+    run: WordRun,
+) -> Result<Text, Memory>
     requires run { (run.first ≤ run.last) × (run.last < length words.now) }
     requires utf8 { All IsUtf8 words.now }
 
-    ensures ok { IfOk result (λ t. t ≡ run_text words.now marks.now (places_of run)) }
+    ensures ok { IfOk result (λ t. t ≡ run_text words.now marks.now (seen_run run)) }
 {
     let mut text = String::new(alloc);
     let end = (run.last + 1).min(run.first + MAX_EXCERPT_WORDS);

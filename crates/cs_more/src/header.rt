@@ -18,7 +18,7 @@ pub(crate) struct HeaderColumns {
 }
 
 /// The columns of a header; None where the record is none.
-pub(crate) fn columns_of(header: &ByteRecord) -> Option<HeaderColumns>
+pub(crate) fn header_columns(header: &ByteRecord) -> Option<HeaderColumns>
     ensures is { is_some result ≡ is_header (fields_of header.now) }
     ensures some { IfSome result (λ c. (c.title ≡ column (codes "title") (fields_of header.now)) × (c.facets ≡ column (codes "facets") (fields_of header.now)) × (c.text ≡ column (codes "text") (fields_of header.now))) }
 {

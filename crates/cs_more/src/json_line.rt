@@ -9,7 +9,7 @@ ghost use Rattle.cs_model_sources.specs.JsonSources.{facets_field, json_value, l
 ghost use Rattle.cs_more.specs.LineGiven.{Adds, OverflowsBy, behind_semicolons};
 ghost use Rattle.cs_more.specs.declared.fault.FlatFault.TheVariants.{TooLarge};
 
-use crate::document_line::{push_blank, push_document};
+use crate::document_line::{push_blank, push_document_line};
 use crate::fault::FlatFault;
 use cs_base::Memory;
 use cs_model_sources::Why;
@@ -57,7 +57,7 @@ fn push_value(alloc: Global, tsv: &mut Vec<u8>, value: &Value) -> Result<Option<
     let Some(text) = text_field(value.get("text")) else {
         return Ok(Some(Why::Field));
     };
-    push_document(
+    push_document_line(
         tsv,
         title.as_bytes(),
         facets.as_str().as_bytes(),

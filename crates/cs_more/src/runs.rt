@@ -2,14 +2,14 @@
 ghost use Rattle.std.specs.Prelude.{◌≡◌, ◌≤◌, ◌<◌, ◌+◌, ◌^◌, IfOk, IfSome, fold, if◌then◌else◌, map, min, replicate};
 ghost use Rattle.std.specs.Option.{option_map};
 ghost use Rattle.cs_model_excerpts.specs.Runs.{has_mark_at, shortest};
-ghost use Rattle.cs_more.specs.RunSearch.{better_run, places_of, reach, shorter_run};
+ghost use Rattle.cs_more.specs.RunSearch.{better_run, seen_run, reach, shorter_run};
 
 use cs_base::{Memory, Seq};
 use std::alloc::Global;
 
 /// A run of words.
 #[derive(Clone, Copy, Debug, PartialEq, Eq)]
-pub(crate) struct Run {
+pub(crate) struct WordRun {
     /// The place of its first word, from 0.
     pub first: usize,
     /// The place of its last word.
@@ -25,10 +25,10 @@ pub(crate) fn shortest_run(
     alloc: Global,
     parts: &[Seq<bool>],
     words: usize,
-) -> Result<Option<Run>, Memory>
+) -> Result<Option<WordRun>, Memory>
     requires few { words < 2 ^ 63 }
 
-    ensures ok { IfOk result (λ o. option_map places_of o ≡ shortest parts.now words) }
+    ensures ok { IfOk result (λ o. option_map seen_run o ≡ shortest parts.now words) }
     ensures within { IfOk result (λ o. IfSome o (λ r. (r.first ≤ r.last) × (r.last < words))) }
 {
     let mut reached = zeros(alloc, parts.len())?;
@@ -83,15 +83,15 @@ fn least(numbers: &[usize], most: usize) -> usize
 }
 
 // The better one of a run and that which begins before so many words and ends at a place, if there is one.
-fn better_run(best: Option<Run>, start: usize, last: usize) -> Option<Run>
+fn better_run(best: Option<WordRun>, start: usize, last: usize) -> Option<WordRun>
     requires start { start ≤ last + 1 }
 
-    ensures { option_map places_of result ≡ better_run (option_map places_of best) start last }
+    ensures { option_map seen_run result ≡ better_run (option_map seen_run best) start last }
 {
     if start == 0 {
         return best;
     }
-    let run = Run {
+    let run = WordRun {
         first: start - 1,
         last,
     };
@@ -102,8 +102,8 @@ fn better_run(best: Option<Run>, start: usize, last: usize) -> Option<Run>
 }
 
 // The shorter one of two runs, the first one where they have one length.
-fn shorter_run(a: Run, b: Run) -> Run
-    ensures { places_of result ≡ shorter_run (places_of a) (places_of b) }
+fn shorter_run(a: WordRun, b: WordRun) -> WordRun
+    ensures { seen_run result ≡ shorter_run (seen_run a) (seen_run b) }
 {
     if a.last.saturating_sub(a.first) <= b.last.saturating_sub(b.first) {
         a

@@ -16,7 +16,7 @@ use Rattle.cs_query.specs.declared.fault.Stop.TheVariants as stops
 use Rattle.cs_query.specs.declared.reader.Tail.{Tail}
 use Rattle.cs_query.specs.declared.reader.Tail.TheVariants as tails
 use Rattle.cs_query.specs.declared.reader.Reader.{Reader}
-use Rattle.cs_query.specs.Following.{StandsBehind, StandsBehindAll, JudgesTokens, Answers, fault_at, held, settled}
+use Rattle.cs_query.specs.Following.{StandsBehind, StandsBehindAll, JudgesTokens, IsAnswerTo, fault_at, held, settled}
 use Rattle.cs_query.proofs.Verdicts.{within_all}
 use Rattle.cs_model.proofs.SizeLemmas.{size_next, place_more}
 use Rattle.std.specs.Char.{encode_utf8}
@@ -100,7 +100,7 @@ at_fault cs i at x r fault h t v = record {
 }
 
 pub at_stop : (cs : List ℕ) (i at x : ℕ) (r : Reader) (s : Stop) (h : HasRead cs i at r) → ComesAt cs i x
-    → JudgesTokens (with_next x (held r.tail h.follows.0)) (Err s) → Answers cs (Err (fault_at at s))
+    → JudgesTokens (with_next x (held r.tail h.follows.0)) (Err s) → IsAnswerTo cs (Err (fault_at at s))
 at_stop cs i at x r stops.Bad h t v = at_fault cs i at x r Bad h t v
 at_stop cs i at x r (stops.Limit which) h t v = at_fault cs i at x r (Limit which) h t v
 at_stop cs i at x r stops.Memory h t v = tt

@@ -10,7 +10,7 @@
 --   JudgesNext r ts result       behind the reader r and the tokens `rest` before its tail: it judges the tokens ts rest
 --   JudgesBegun t tail g result  behind a tail and what is gathered: it judges their tokens with the new token t, where the grammar lets it stand
 --   fault_at at stop       the fault of a text whose reader stops at the byte `at`
---   Answers cs result      the answer to the characters cs of a key text
+--   IsAnswerTo cs result   the answer to the characters cs of a key text
 use Rattle.std.specs.Prelude.{◌≡◌, ℕ, ◌+◌, ◌≤◌, List, [], ◌∷◌, false, reverse, length, Some, Result, Ok, Err}
 use Rattle.cs_model.specs.Tokens.{Token, Word, Value, Run, Gap, Dollar, Bar, Colon, Open, Close, size}
 use Rattle.cs_model.specs.Grammar.{spot, tie, steps, reading, query_of}
@@ -95,8 +95,8 @@ fault_at at (stops.Limit which) = faults.Limit at which
 fault_at at stops.Memory = faults.Memory
 
 -- The answer to the characters of a key text: its query exactly where it is accepted, or its first refused character, unless memory runs out.
-abbrev pub Answers : List ℕ → Result Query QueryFault → Type 0
-Answers cs (Ok q) = IsAccepted cs × (q ≡ query_of cs)
-Answers cs (Err (faults.Bad at)) = IsRefused cs at Bad
-Answers cs (Err (faults.Limit at which)) = IsRefused cs at (Limit which)
-Answers cs (Err faults.Memory) = Unit {0}
+abbrev pub IsAnswerTo : List ℕ → Result Query QueryFault → Type 0
+IsAnswerTo cs (Ok q) = IsAccepted cs × (q ≡ query_of cs)
+IsAnswerTo cs (Err (faults.Bad at)) = IsRefused cs at Bad
+IsAnswerTo cs (Err (faults.Limit at which)) = IsRefused cs at (Limit which)
+IsAnswerTo cs (Err faults.Memory) = Unit {0}

@@ -6,7 +6,7 @@ ghost use Rattle.cs_base.specs.declared.content.query.Which.{Which as WhichValue
 ghost use Rattle.cs_model.specs.Grammar.{all_closed, query_of, query_of_tokens};
 ghost use Rattle.cs_model.specs.KeyText.{norm};
 ghost use Rattle.cs_model.specs.Refusals.{Bad, Limit, IsAccepted, IsOfGrammar, IsRefused};
-ghost use Rattle.cs_query.specs.Following.{Answers, StandsBehind, StandsBehindAll, fault_at, held};
+ghost use Rattle.cs_query.specs.Following.{IsAnswerTo, StandsBehind, StandsBehindAll, fault_at, held};
 
 use crate::attaching::close_level;
 use crate::fault::{QueryFault, Stop};
@@ -38,7 +38,7 @@ pub fn parse(alloc: Global, s: &str) -> Result<Query, QueryFault>
 
 /// The query of a key text, or its first refused character.
 fn read(alloc: Global, key: &str) -> Result<Query, QueryFault>
-    ensures { Answers (chars key.now) result }
+    ensures { IsAnswerTo (chars key.now) result }
 {
     let mut reader = start(alloc);
     let mut at: u32 = 0;

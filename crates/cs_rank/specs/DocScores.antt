@@ -4,7 +4,7 @@
 --   of_doc d rows         the rows of document d
 --   best_row rows d       document d with the greatest score of its rows
 --   with_base base h      h, with what the earlier parts gave it added
---   scores base rows      each document of the rows with its score, ascending
+--   doc_scores base rows  each document of the rows with its score, ascending
 --   IsBase base           what a base keeps: its documents ascend, and no score is above 2^20
 --   PassedBelow hs n d    the first n of hs are of documents below d
 use Rattle.std.specs.Prelude.{ℕ, ◌+◌, ◌≤◌, ◌^◌, ◌<◌, max, length, slice_index_or, List, [], ◌∷◌, map, All, filter, ◌==◌}
@@ -33,8 +33,8 @@ abbrev pub with_base : Base → Scored → Scored
 with_base base h = record { doc = h.doc; score = base_score base h.doc + h.score }
 
 -- each document of the rows with its score, by document ascending
-abbrev pub scores : Base → List Post → List Scored
-scores base rows = map (λ d. with_base base (best_row rows d)) (docs_of rows)
+abbrev pub doc_scores : Base → List Post → List Scored
+doc_scores base rows = map (λ d. with_base base (best_row rows d)) (docs_of rows)
 
 -- the listed documents strictly ascend, and none has a score above 2^20: no limit of a query comes near it, and below it adding a
 -- row's score to a base's never wraps

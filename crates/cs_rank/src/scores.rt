@@ -7,7 +7,7 @@ ghost use Rattle.cs_base.specs.declared.content.doc.Base.TheVariants.{Listed};
 ghost use Rattle.cs_base.specs.content.Bases.{base_score};
 ghost use Rattle.cs_base.specs.declared.content.scores.TheConstants.{MAX_ROW_SCORE};
 ghost use Rattle.cs_rank.specs.Groups.{group, with_greater};
-ghost use Rattle.cs_rank.specs.DocScores.{best_row, with_base, scores, IsBase, PassedBelow};
+ghost use Rattle.cs_rank.specs.DocScores.{best_row, with_base, doc_scores, IsBase, PassedBelow};
 
 use cs_base::{Base, Memory, Scored, Seq};
 use cs_cols::Cols;
@@ -18,11 +18,11 @@ const NOTHING: Scored = Scored { doc: 0, score: 0 };
 
 /// Each document of the rows, ascending, with its score: what the base gave it and the greatest score of its
 /// rows. A document that the base doesn't list counts there as 0.
-pub fn score(alloc: Global, base: &Base, rows: &Cols) -> Result<Seq<Scored>, Memory>
+pub fn doc_scores(alloc: Global, base: &Base, rows: &Cols) -> Result<Seq<Scored>, Memory>
     requires base { IsBase base.now }
     requires rows_sorted { AreSorted rows.now.posts }
 
-    ensures ok { IfOk result (λ v. v ≡ scores base.now rows.now.posts) }
+    ensures ok { IfOk result (λ v. v ≡ doc_scores base.now rows.now.posts) }
 {
     let best = best_scores(alloc, rows)?;
     match base {

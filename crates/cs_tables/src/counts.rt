@@ -52,7 +52,7 @@ impl Mark {
 }
 
 /// Each word of the rows with its number of documents, by the word's number.
-pub(crate) fn counts(alloc: Global, rows: &Cols) -> Result<Vec<Scored>, Memory>
+pub(crate) fn counts_by_word(alloc: Global, rows: &Cols) -> Result<Vec<Scored>, Memory>
     requires sorted { AreSorted rows.now.posts }
     requires docs { All (λ p. p.doc < MAX_DOCS) rows.now.posts }
     requires words { All (λ p. p.word < MAX_WORDS) rows.now.posts }

@@ -4,7 +4,7 @@ ghost use Rattle.cs_base.specs.content.Orders.{AreSorted};
 ghost use Rattle.cs_base.specs.declared.content.limits.TheConstants.{MAX_DOCS, MAX_WORDS};
 ghost use Rattle.cs_tables.specs.TableListings.{post_table, completion};
 
-use crate::counts::counts;
+use crate::counts::counts_by_word;
 use cs_base::{Memory, Scored, Seq};
 use cs_cols::Cols;
 use cs_rank::top;
@@ -40,7 +40,7 @@ pub fn completions(alloc: Global, rows: &Cols, cut: u32) -> Result<Table, Memory
     ensures total { IfOk result (λ t. t.total ≡ length (post_table rows.now.posts)) }
     ensures first { IfOk result (λ t. t.first ≡ take cut (post_table rows.now.posts)) }
 {
-    let counted = counts(alloc, rows)?;
+    let counted = counts_by_word(alloc, rows)?;
     let best = top(alloc, counted.as_slice(), 0, cut)?;
     let first = completions_of(alloc, best.as_slice())?;
     Ok(Table {

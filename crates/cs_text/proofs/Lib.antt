@@ -1,6 +1,6 @@
 pub mod AsciiWordsLemmas
 pub mod CutLemmas
-pub mod Digits
+pub mod DigitLemmas
 pub mod KeyBytesLemmas
 pub mod WordPiecesLemmas
 pub mod SlugLemmas

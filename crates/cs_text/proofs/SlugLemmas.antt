@@ -15,9 +15,9 @@ use Rattle.cs_model.specs.Ascii.{is_ascii_gap}
 use Rattle.cs_model.specs.Collection.{is_name_byte}
 use Rattle.cs_model.specs.Words.{is_filled, cut, words, words_of, slug, slug_of}
 use Rattle.cs_model.proofs.AsciiLemmas.{AllAscii-from_IsAscii, cut-ascii, words_of-ascii}
-use Rattle.cs_text.specs.WordPieces.{is_small_word, words_in, joined_with}
+use Rattle.cs_text.specs.WordPieces.{is_small_word, words_of_pieces, joined_with}
 use Rattle.cs_text.proofs.KeyBytesLemmas.{IsAscii-key_bytes, norm-key_bytes, key_bytes-name_bytes}
-use Rattle.cs_text.proofs.WordPiecesLemmas.{AllSome, AllSome-words_in, words_in-append, words_in-some, none_length}
+use Rattle.cs_text.proofs.WordPiecesLemmas.{AllSome, AllSome-words_of_pieces, words_of_pieces-append, words_of_pieces-some, none_length}
 
 joined_with-none : (bs : List ℕ) → joined_with bs [] ≡ bs
 joined_with-none bs = refl
@@ -38,15 +38,15 @@ joined_with-word ([] ∷ ws) w h = absurd (omega (arith, h.0))
 joined_with-word ((b ∷ v) ∷ []) w h = refl
 joined_with-word ((b ∷ v) ∷ u ∷ ws) w h = join-more (b ∷ v) (u ∷ ws) w
 
-joined_with-words_at : (b : Bool) (ws : List (List ℕ)) (p : List ℕ) → is_filled p ≡ b → AllSome ws → joined_with (join_with_byte 95 ws) (words_in (p ∷ [])) ≡ join_with_byte 95 (ws ++ words_in (p ∷ []))
-joined_with-words_at true ws p is h = ap (joined_with (join_with_byte 95 ws)) (words_in-some p is) ∙ joined_with-word ws (cut p) h ∙ ap (λ vs. join_with_byte 95 (ws ++ vs)) (sym (words_in-some p is))
+joined_with-words_at : (b : Bool) (ws : List (List ℕ)) (p : List ℕ) → is_filled p ≡ b → AllSome ws → joined_with (join_with_byte 95 ws) (words_of_pieces (p ∷ [])) ≡ join_with_byte 95 (ws ++ words_of_pieces (p ∷ []))
+joined_with-words_at true ws p is h = ap (joined_with (join_with_byte 95 ws)) (words_of_pieces-some p is) ∙ joined_with-word ws (cut p) h ∙ ap (λ vs. join_with_byte 95 (ws ++ vs)) (sym (words_of_pieces-some p is))
 joined_with-words_at false ws p is h =
-    let none : words_in (p ∷ []) ≡ [] = rw is in
+    let none : words_of_pieces (p ∷ []) ≡ [] = rw is in
     ap (joined_with (join_with_byte 95 ws)) none ∙ joined_with-none (join_with_byte 95 ws) ∙ ap (join_with_byte 95) (sym (append-nil ws)) ∙ ap (λ vs. join_with_byte 95 (ws ++ vs)) (sym none)
 
 -- one piece more
-pub joined_with-piece : (ps : List (List ℕ)) (p : List ℕ) → joined_with (join_with_byte 95 (words_in ps)) (words_in (p ∷ [])) ≡ join_with_byte 95 (words_in (ps ++ p ∷ []))
-joined_with-piece ps p = joined_with-words_at (is_filled p) (words_in ps) p refl (AllSome-words_in ps) ∙ ap (join_with_byte 95) (sym (words_in-append ps (p ∷ [])))
+pub joined_with-piece : (ps : List (List ℕ)) (p : List ℕ) → joined_with (join_with_byte 95 (words_of_pieces ps)) (words_of_pieces (p ∷ [])) ≡ join_with_byte 95 (words_of_pieces (ps ++ p ∷ []))
+joined_with-piece ps p = joined_with-words_at (is_filled p) (words_of_pieces ps) p refl (AllSome-words_of_pieces ps) ∙ ap (join_with_byte 95) (sym (words_of_pieces-append ps (p ∷ [])))
 
 -- ---- whether there is a word
 

@@ -9,7 +9,7 @@ use Rattle.std.proofs.lemmas.List.{map-append, take_all}
 use Rattle.std.proofs.lemmas.List.Elements.{filter-append}
 use Rattle.std.proofs.lemmas.Str.{chars-nil}
 use Rattle.cs_model.specs.Words.{is_filled, cut}
-use Rattle.cs_text.specs.WordPieces.{words_in}
+use Rattle.cs_text.specs.WordPieces.{words_of_pieces}
 use Rattle.cs_text.proofs.CutLemmas.{cut-some}
 
 pub some_length : (n : ℕ) → (n == 0) ≡ false → 1 ≤ n
@@ -24,11 +24,11 @@ nil_from_test (b ∷ bs) h = absurd (omega (arith, none_length (length (b ∷ bs
 
 -- ---- one piece
 
-pub words_in-empty : (bs : List ℕ) → (length bs == 0) ≡ true → words_in (chars bs ∷ []) ≡ []
-words_in-empty bs h = ap (λ cs. words_in (cs ∷ [])) (ap chars (nil_from_test bs h) ∙ chars-nil)
+pub words_of_pieces-empty : (bs : List ℕ) → (length bs == 0) ≡ true → words_of_pieces (chars bs ∷ []) ≡ []
+words_of_pieces-empty bs h = ap (λ cs. words_of_pieces (cs ∷ [])) (ap chars (nil_from_test bs h) ∙ chars-nil)
 
-pub words_in-some : (cs : List ℕ) → is_filled cs ≡ true → words_in (cs ∷ []) ≡ cut cs ∷ []
-words_in-some cs h = rw h
+pub words_of_pieces-some : (cs : List ℕ) → is_filled cs ≡ true → words_of_pieces (cs ∷ []) ≡ cut cs ∷ []
+words_of_pieces-some cs h = rw h
 
 pub take-min : (n : ℕ) (bs : List ℕ) → take (min (length bs) n) bs ≡ take n bs
 take-min n bs = ⊎_elim
@@ -38,17 +38,17 @@ take-min n bs = ⊎_elim
 
 -- ---- pieces and one more
 
-pub words_in-append : (ps qs : List (List ℕ)) → words_in (ps ++ qs) ≡ words_in ps ++ words_in qs
-words_in-append ps qs = ap (map cut) (filter-append is_filled ps qs) ∙ map-append cut (filter is_filled ps) (filter is_filled qs)
+pub words_of_pieces-append : (ps qs : List (List ℕ)) → words_of_pieces (ps ++ qs) ≡ words_of_pieces ps ++ words_of_pieces qs
+words_of_pieces-append ps qs = ap (map cut) (filter-append is_filled ps qs) ∙ map-append cut (filter is_filled ps) (filter is_filled qs)
 
 -- each of them has bytes
 abbrev pub AllSome : List (List ℕ) → Type 0
 AllSome = AllByRecursion (λ w. 1 ≤ length w)
 
-all_some_at : (b : Bool) (p : List ℕ) (ps : List (List ℕ)) → is_filled p ≡ b → AllSome (words_in ps) → AllSome (map cut (cond b (p ∷ filter is_filled ps) (filter is_filled ps)))
+all_some_at : (b : Bool) (p : List ℕ) (ps : List (List ℕ)) → is_filled p ≡ b → AllSome (words_of_pieces ps) → AllSome (map cut (cond b (p ∷ filter is_filled ps) (filter is_filled ps)))
 all_some_at true p ps is h = (cut-some p is, h)
 all_some_at false p ps is h = h
 
-pub AllSome-words_in : (ps : List (List ℕ)) → AllSome (words_in ps)
-AllSome-words_in [] = tt
-AllSome-words_in (p ∷ ps) = all_some_at (is_filled p) p ps refl (AllSome-words_in ps)
+pub AllSome-words_of_pieces : (ps : List (List ℕ)) → AllSome (words_of_pieces ps)
+AllSome-words_of_pieces [] = tt
+AllSome-words_of_pieces (p ∷ ps) = all_some_at (is_filled p) p ps refl (AllSome-words_of_pieces ps)

@@ -1,6 +1,6 @@
 -- What the pieces of a text between gaps give, some of which may be empty, and the words that are their own slugs.
 --
---   words_in pieces        the words of the pieces, each by its characters
+--   words_of_pieces pieces  the words of the pieces, each by its characters
 --   joined_with bytes ws   the bytes and then the first of ws, with `_` between the two where there are bytes
 --   is_small_word bytes    whether the bytes are one word of letters a to z and digits
 use Rattle.std.specs.Prelude.{ℕ, Bool, ◌&&◌, nat_le, List, [], ◌∷◌, ◌++◌, map, filter, length}
@@ -10,8 +10,8 @@ use Rattle.cs_model.specs.Collection.{is_name_byte}
 use Rattle.cs_model.specs.Words.{is_filled, cut}
 
 -- a word for each piece that has characters
-abbrev pub words_in : List (List ℕ) → List (List ℕ)
-words_in pieces = map cut (filter is_filled pieces)
+abbrev pub words_of_pieces : List (List ℕ) → List (List ℕ)
+words_of_pieces pieces = map cut (filter is_filled pieces)
 
 -- the bytes alone where ws has no word
 abbrev pub joined_with : List ℕ → List (List ℕ) → List ℕ

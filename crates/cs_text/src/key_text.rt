@@ -17,7 +17,7 @@ use unicode_normalization::to_nfd;
 pub fn norm(alloc: Global, s: &str) -> Result<Text, Memory>
     ensures ok { IfOk result (λ t. t ≡ norm s.now) }
 {
-    let key = key_of(alloc, s)?;
+    let key = key_string(alloc, s)?;
     Ok(Text::from_string(key))
 }
 
@@ -34,7 +34,7 @@ pub fn is_plain_key(s: &str) -> bool
 }
 
 /// The key text as a string.
-pub(crate) fn key_of(alloc: Global, s: &str) -> Result<String, Memory>
+pub(crate) fn key_string(alloc: Global, s: &str) -> Result<String, Memory>
     ensures ok { IfOk result (λ t. string_bytes t ≡ norm s.now) }
 {
     if s.is_ascii() {

@@ -6,7 +6,7 @@ ghost use Rattle.cs_model.specs.Words.{words, words_of};
 
 use crate::ascii::first_word;
 use crate::character::is_gap;
-use crate::key_text::key_of;
+use crate::key_text::key_string;
 use crate::piece::push_word;
 use cs_base::{Memory, Seq, Word};
 use std::alloc::Global;
@@ -20,7 +20,7 @@ pub fn words(alloc: Global, s: &str) -> Result<Seq<Word>, Memory>
     ensures ok { IfOk result (λ v. v ≡ words s.now) }
     ensures utf8 { IfOk result (λ v. All IsUtf8 v) }
 {
-    let key = key_of(alloc, s)?;
+    let key = key_string(alloc, s)?;
     let found = words_of(alloc, key.as_str())?;
     Ok(found)
 }

@@ -1,7 +1,7 @@
 //! Pieces of a text between gaps, and what becomes of them.
 ghost use Rattle.std.specs.Prelude.{◌≡◌, ◌≤◌, ◌++◌, [], ◌∷◌, OnOk, OnErr, chars, length};
 ghost use Rattle.cs_model.specs.Words.{cut};
-ghost use Rattle.cs_text.specs.WordPieces.{words_in};
+ghost use Rattle.cs_text.specs.WordPieces.{words_of_pieces};
 
 use cs_base::{MAX_PLAIN_WORD_BYTES, Memory, Word};
 use std::alloc::Global;
@@ -18,7 +18,7 @@ pub(crate) fn cut(text: &str) -> &str
 
 /// Adds the word of a piece, if the piece has characters.
 pub(crate) fn push_word(alloc: Global, words: &mut Vec<Word>, piece: &str) -> Result<(), Memory>
-    ensures ok { OnOk result (words.new.items ≡ words.old.items ++ words_in (chars piece.now ∷ [])) }
+    ensures ok { OnOk result (words.new.items ≡ words.old.items ++ words_of_pieces (chars piece.now ∷ [])) }
     ensures err { OnErr result (words.new.items ≡ words.old.items) }
 {
     if piece.is_empty() {

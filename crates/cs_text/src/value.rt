@@ -2,10 +2,10 @@
 ghost use Rattle.std.specs.Prelude.{◌≡◌, IfOk, OnOk, [], ◌∷◌, chars, string_bytes};
 ghost use Rattle.std.specs.List.{join_with_byte};
 ghost use Rattle.cs_model.specs.Words.{slug, words_of};
-ghost use Rattle.cs_text.specs.WordPieces.{is_small_word, words_in, joined_with};
+ghost use Rattle.cs_text.specs.WordPieces.{is_small_word, words_of_pieces, joined_with};
 
 use crate::character::is_gap;
-use crate::key_text::key_of;
+use crate::key_text::key_string;
 use crate::name::has_name_bytes;
 use crate::piece::cut;
 use cs_base::{MAX_PLAIN_WORD_BYTES, Memory, Text};
@@ -20,7 +20,7 @@ pub fn slug(alloc: Global, value: &str) -> Result<Option<Text>, Memory>
         let own = Text::from_str(alloc, value)?;
         return Ok(Some(own));
     }
-    let key = key_of(alloc, value)?;
+    let key = key_string(alloc, value)?;
     let joined = joined_words(alloc, key.as_str())?;
     if joined.is_empty() {
         return Ok(None);
@@ -49,7 +49,7 @@ fn joined_words(alloc: Global, key: &str) -> Result<String, Memory>
 
 // Adds the word of a piece, if the piece has characters, and before it a `_` if it isn't the first.
 fn join_word(joined: &mut String, piece: &str) -> Result<(), Memory>
-    ensures ok { OnOk result (string_bytes joined.new ≡ joined_with (string_bytes joined.old) (words_in (chars piece.now ∷ []))) }
+    ensures ok { OnOk result (string_bytes joined.new ≡ joined_with (string_bytes joined.old) (words_of_pieces (chars piece.now ∷ []))) }
 {
     if piece.is_empty() {
         return Ok(());

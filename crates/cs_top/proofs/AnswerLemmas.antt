@@ -35,8 +35,8 @@ use Rattle.cs_top.specs.ScriptEndings.{Passes, StopsAt}
 use Rattle.cs_top.specs.Views.{of_script, stop_ending}
 use Rattle.cs_top.specs.declared.lines.ScriptStop.{ScriptStop}
 use Rattle.cs_top.specs.declared.lines.ScriptStop.TheVariants as scripts
-use Rattle.cs_top.specs.declared.script.Came.{Came}
-use Rattle.cs_top.specs.declared.script.Came.TheVariants as came
+use Rattle.cs_top.specs.declared.script.WhatCame.{WhatCame}
+use Rattle.cs_top.specs.declared.script.WhatCame.TheVariants as came
 use Rattle.cs_top.specs.declared.script.answers.Answer.{Answer}
 use Rattle.cs_top.specs.declared.script.answers.Answer.TheVariants as answers
 use Rattle.cs_top.specs.declared.words.HitForm.{HitForm}
@@ -69,12 +69,12 @@ module _ (docs : AtHand) (f : FileView) (k : Corpus) (l : ℕ × List ℕ) (a : 
       (some, read, rose, (came_of_answer a, x.0, x.2, x.3, subst (λ b. GrewByPrefix w.old b w.new) x.1 g))
 
   -- a line whose answer was put
-  pub line_ok : {E : Type 0} (r : Result Came E) (old new : Option (List ℕ)) → OnOk r (Grew old (line_bytes a) new) → IfOk r (λ x. x ≡ came_of_answer a) → IfOk r (λ came. Passes (MayAnswer docs f k) l old new came n m)
+  pub line_ok : {E : Type 0} (r : Result WhatCame E) (old new : Option (List ℕ)) → OnOk r (Grew old (line_bytes a) new) → IfOk r (λ x. x ≡ came_of_answer a) → IfOk r (λ came. Passes (MayAnswer docs f k) l old new came n m)
   line_ok (Ok x) old new g is = subst (λ y. Passes (MayAnswer docs f k) l old new y n m) (sym is) (passes old new g)
   line_ok (Err e) old new g is = tt
 
   -- and one whose answer wasn't put whole
-  pub line_err : (r : Result Came ScriptStop) (w : Wrote) → OnErr r (GrewByPrefix w.old (line_bytes a) w.new) → IfErr r (λ s. s ≡ scripts.Failed) → IfErr r (λ s. CausedBy (stop_ending (of_script s)) w.before w.now)
+  pub line_err : (r : Result WhatCame ScriptStop) (w : Wrote) → OnErr r (GrewByPrefix w.old (line_bytes a) w.new) → IfErr r (λ s. s ≡ scripts.Failed) → IfErr r (λ s. CausedBy (stop_ending (of_script s)) w.before w.now)
       → IfErr r (λ s. StopsAt (MayAnswer docs f k) (stop_ending (of_script s)) l w n m)
   line_err (Ok x) w g is cause = tt
   line_err (Err s) w g is cause =
@@ -82,7 +82,7 @@ module _ (docs : AtHand) (f : FileView) (k : Corpus) (l : ℕ × List ℕ) (a : 
       (stops_there w g (subst (λ x. CausedBy (stop_ending (of_script x)) w.before w.now) is cause).0)
 
 -- what holds of what came holds of the result that says so
-pub said_came : {E : Type 0} (r : Result Came E) (a : Came) (P : Came → Type 0) → IfOk r (λ x. x ≡ a) → P a → IfOk r P
+pub said_came : {E : Type 0} (r : Result WhatCame E) (a : WhatCame) (P : WhatCame → Type 0) → IfOk r (λ x. x ≡ a) → P a → IfOk r P
 said_came (Ok x) a P is p = subst P (sym is) p
 said_came (Err e) a P is p = tt
 

@@ -17,8 +17,8 @@ use Rattle.cs_top.specs.CommandLine.{Ending, done, usage, refused, damaged, abse
 use Rattle.cs_top.specs.Met.{Wrote}
 use Rattle.cs_top.specs.ScriptEndings.{ScriptEnds, ShortTally, Tally, StopsAt, Reaches, EndsAt}
 use Rattle.cs_top.specs.declared.lines.Place.{Place}
-use Rattle.cs_top.specs.declared.script.Came.{Came}
-use Rattle.cs_top.specs.declared.script.Came.TheVariants.{Answered}
+use Rattle.cs_top.specs.declared.script.WhatCame.{WhatCame}
+use Rattle.cs_top.specs.declared.script.WhatCame.TheVariants.{Answered}
 use Rattle.cs_top.proofs.TallyLemmas.{tally_none, tally_same, tally_more, short_here, short_failed, short_put}
 
 -- ---- the lines from a place on
@@ -72,7 +72,7 @@ fault-nil = refl
 
 -- ---- what is put so far
 -- some lines were answered, and this came of them; what is left decides the rest
-pub record HasAnswered (A : MayPut) (all left : List (ℕ × List ℕ)) (old now : Option (List ℕ)) (came : Came) (before count : ℕ) : Type 0 where
+pub record HasAnswered (A : MayPut) (all left : List (ℕ × List ℕ)) (old now : Option (List ℕ)) (came : WhatCame) (before count : ℕ) : Type 0 where
   pub done : List (List ℕ)
   pub texts : List (List ℕ)
   pub so_far : readable_lines all ≡ done ++ readable_lines left
@@ -84,7 +84,7 @@ pub record HasAnswered (A : MayPut) (all left : List (ℕ × List ℕ)) (old now
 pub at_start : (A : MayPut) (all left : List (ℕ × List ℕ)) (w : Option (List ℕ)) (n m : ℕ) → all ≡ left → m ≡ n → HasAnswered A all left w w Answered n m
 at_start A all left w n m e same = record { done = []; texts = []; so_far = ap readable_lines e; fault = ap first_fault e; answered = tt; grew = grew_none w; tally = tally_none n m same }
 
-module _ {A : MayPut} {all left : List (ℕ × List ℕ)} {old now : Option (List ℕ)} {came : Came} {before count : ℕ} (h : HasAnswered A all left old now came before count) where
+module _ {A : MayPut} {all left : List (ℕ × List ℕ)} {old now : Option (List ℕ)} {came : WhatCame} {before count : ℕ} (h : HasAnswered A all left old now came before count) where
   so_far-read : (l : ℕ × List ℕ) (ls : List (ℕ × List ℕ)) → left ≡ l ∷ ls → line_fault l ≡ None → readable_lines all ≡ h.done ++ l.1 ∷ readable_lines ls
   so_far-read l ls is read = h.so_far ∙ ap (λ x. h.done ++ readable_lines x) is ∙ ap (λ x. h.done ++ x) (readable-read l ls read)
 
@@ -92,7 +92,7 @@ module _ {A : MayPut} {all left : List (ℕ × List ℕ)} {old now : Option (Lis
   one_more l ls is read = so_far-read l ls is read ∙ sym (append_assoc h.done (l.1 ∷ []) (readable_lines ls))
 
   -- a line was answered
-  answers : (l : ℕ × List ℕ) (ls : List (ℕ × List ℕ)) (t : List ℕ) (new : Option (List ℕ)) (met : Came) (n : ℕ) → left ≡ l ∷ ls → line_fault l ≡ None → A l.1 t → Costs met count n t → Grew now (t ++ 10 ∷ []) new
+  answers : (l : ℕ × List ℕ) (ls : List (ℕ × List ℕ)) (t : List ℕ) (new : Option (List ℕ)) (met : WhatCame) (n : ℕ) → left ≡ l ∷ ls → line_fault l ≡ None → A l.1 t → Costs met count n t → Grew now (t ++ 10 ∷ []) new
       → HasAnswered A all ls old new (worst came met) before n
   answers l ls t new met n is read a cost g = record {
     done = h.done ++ l.1 ∷ [];
@@ -163,12 +163,12 @@ some_of A no_memory l w n m st = absurd st
 some_of A changed l w n m st = absurd st
 some_of A (merge_refused r) l w n m st = absurd st
 
-module _ (s : List ℕ) (p : Place) {A : MayPut} {all : List (ℕ × List ℕ)} {old now : Option (List ℕ)} {came : Came} {before count : ℕ} (h : HasAnswered A all (lines_at s p) old now came before count) where
+module _ (s : List ℕ) (p : Place) {A : MayPut} {all : List (ℕ × List ℕ)} {old now : Option (List ℕ)} {came : WhatCame} {before count : ℕ} (h : HasAnswered A all (lines_at s p) old now came before count) where
   left_at : (q : Place) (l : List ℕ) → lines (drop p.at s) ≡ l ∷ lines (drop q.at s) → q.number ≡ p.number + 1 → lines_at s p ≡ kept (enumerate_from q.number (l ∷ lines (drop q.at s)))
   left_at q l is n = ap (λ ls. kept (enumerate_from (p.number + 1) ls)) is ∙ ap (λ m. kept (enumerate_from m (l ∷ lines (drop q.at s)))) (sym n)
 
   -- the script goes on behind the line
-  pub goes_on : (q : Place) (new : Option (List ℕ)) (met : Came) (n : ℕ) → Reaches A s p q now new met count n → HasAnswered A all (lines_at s q) old new (worst came met) before n
+  pub goes_on : (q : Place) (new : Option (List ℕ)) (met : WhatCame) (n : ℕ) → Reaches A s p q now new met count n → HasAnswered A all (lines_at s q) old new (worst came met) before n
   goes_on q new met n (l, is, next, inl (none, same, plain, calm)) =
       let rest : HasAnswered A all (lines_at s q) old now came before count = subst (λ ls. HasAnswered A all ls old now came before count) (left_at q l is next ∙ kept_none q.number l (lines (drop q.at s)) none) h in
       record {

@@ -12,7 +12,7 @@ use Rattle.cs_model_index.specs.Sections.{image_of}
 use Rattle.cs_top.specs.ScriptRuns.{AskStops, AskTold, CanAsk, CanReplay, ReplayCaused, ReplayScript, ReplayStops, ReplayTold}
 use Rattle.cs_top.specs.Build.{BuildStops, BuildTold, BuildWrites, CanBuild}
 use Rattle.cs_top.specs.CommandLine.{Command, build, ask, replay, serve, trial, upgrade, merge, Ending, done, usage, refused, damaged, absent, failed, no_memory, script_refused, changed, merge_refused, status, Caused, CausedBy}
-use Rattle.cs_top.specs.Import.{IsAccepted, IsRefused, Refusal, of_collection, of_csv, of_jsonl}
+use Rattle.cs_top.specs.Import.{IsAcceptedAs, IsRefusedAs, Refusal, of_collection, of_csv, of_jsonl}
 use Rattle.cs_top.specs.Merge.{CanMerge, MergeStops, MergeTold}
 use Rattle.cs_top.specs.Met.{Listened, Met, Wrote, held_bytes}
 use Rattle.cs_top.specs.CommandRuns.{Completes, Ran}
@@ -30,7 +30,7 @@ missing None held none = held
 missing (Some f) held none = absurd cc
 
 -- a source that is accepted isn't refused
-never : (form : Form) (b : List ℕ) (r : Refusal) → IsRefused form b r → IsAccepted form b → ⊥
+never : (form : Form) (b : List ℕ) (r : Refusal) → IsRefusedAs form b r → IsAcceptedAs form b → ⊥
 never forms.Collection b (of_collection r) is can = let e : Some r ≡ None = sym is ∙ can in absurd cc
 never forms.Csv b (of_csv r) is can = let e : Some r ≡ None = sym is ∙ can in absurd cc
 never forms.JsonLines b (of_jsonl r) is can = let e : Some r ≡ None = sym is ∙ can in absurd cc

@@ -8,7 +8,7 @@ use Rattle.cs_top.specs.CommandLine.{Ending, done, usage, refused, damaged, abse
 use Rattle.cs_top.specs.Met.{Wrote}
 use Rattle.cs_top.specs.ScriptEndings.{StopsAt, IsFirstLine, EndsAt, Passes, Reaches}
 use Rattle.cs_top.specs.declared.lines.Place.{Place}
-use Rattle.cs_top.specs.declared.script.Came.{Came}
+use Rattle.cs_top.specs.declared.script.WhatCame.{WhatCame}
 use Rattle.cs_top.proofs.LineTexts.{fault-too_long}
 
 long_some : (l : List ℕ) → MAX_SCRIPT_LINE_BYTES < length l → l ≢ []
@@ -33,7 +33,7 @@ module _ (A : MayPut) (s l : List ℕ) (p : Place) (at : ℕ) (w : Wrote) (befor
   ends_at changed (inr x) h = absurd h
   ends_at (merge_refused r) (inr x) h = absurd h
 
-  pub reaches_by : (q : Place) (old new : Option (List ℕ)) (came : Came) → IsFirstLine (drop p.at s) l (drop q.at s) → q.number ≡ p.number + 1 → Passes A (q.number, l) old new came before now → Reaches A s p q old new came before now
+  pub reaches_by : (q : Place) (old new : Option (List ℕ)) (came : WhatCame) → IsFirstLine (drop p.at s) l (drop q.at s) → q.number ≡ p.number + 1 → Passes A (q.number, l) old new came before now → Reaches A s p q old new came before now
   reaches_by q old new came (inl is) n h = (l, is, n, h)
   reaches_by q old new came (inr (long, more)) n (inl (none, same, plain, calm)) = absurd (long_some l long none)
   reaches_by q old new came (inr (long, more)) n (inr (some, read, put)) = absurd (unread q.number l long read)

@@ -10,8 +10,8 @@ use Rattle.cs_base.specs.outside.Outside.{Held}
 use Rattle.cs_engine.specs.Keeping.{EngineView}
 use Rattle.cs_model.specs.Corpus.{Corpus}
 use Rattle.cs_top.specs.Answering.{AnswersOver, CameOver, FileView, StaysOver, worst}
-use Rattle.cs_top.specs.declared.script.Came.{Came}
-use Rattle.cs_top.specs.declared.script.Came.TheVariants.{Answered}
+use Rattle.cs_top.specs.declared.script.WhatCame.{WhatCame}
+use Rattle.cs_top.specs.declared.script.WhatCame.TheVariants.{Answered}
 use Rattle.cs_top.proofs.TallyLemmas.{counts_more, not_changed, not_read}
 
 module _ (e : EngineView) (f : FileView) (x y : Option Held) (same : y ≡ x) where
@@ -21,7 +21,7 @@ module _ (e : EngineView) (f : FileView) (x y : Option Held) (same : y ≡ x) wh
   pub over_none : StaysOver e e f f x y
   over_none = record { stays = over_at; engine = refl; file = refl; files = same }
 
-  pub came_at : (came : Came) (n m k : ℕ) → m ≡ n → CameOver e f y came m k → CameOver e f x came n k
+  pub came_at : (came : WhatCame) (n m k : ℕ) → m ≡ n → CameOver e f y came m k → CameOver e f x came n k
   came_at came n m k calm h = subst (λ z. CameOver e f z came n k) same (subst (λ i. CameOver e f y came i k) calm h)
 
   pub over_behind : (e' : EngineView) (f' : FileView) (z : Option Held) → StaysOver e e' f f' y z → StaysOver e e' f f' x z
@@ -38,7 +38,7 @@ module _ {e e' : EngineView} {f f' : FileView} {x y : Option Held} (s : StaysOve
   pub over_more : {e'' : EngineView} {f'' : FileView} {z : Option Held} → StaysOver e' e'' f' f'' y z → StaysOver e e'' f f'' x z
   over_more t = record { stays = λ k over. t.stays k (s.stays k over); engine = t.engine ∙ s.engine; file = t.file ∙ s.file; files = t.files ∙ s.files }
 
-  pub came_more : (a b : Came) (n m k : ℕ) → CameOver e f x a n m → CameOver e' f' y b m k → CameOver e f x (worst a b) n k
+  pub came_more : (a b : WhatCame) (n m k : ℕ) → CameOver e f x a n m → CameOver e' f' y b m k → CameOver e f x (worst a b) n k
   came_more a b n m k p q = record {
     unchanged = λ k over. not_changed a b (p.unchanged k over) (q.unchanged k (s.stays k over));
     unread = λ some. not_read a b (p.unread some) (q.unread (subst (λ g. is_some g.made ≡ true) (sym s.file) some));

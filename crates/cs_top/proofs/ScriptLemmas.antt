@@ -26,7 +26,7 @@ use Rattle.cs_top.specs.ScriptEndings.{ScriptEnds, ShortTally, Tally}
 use Rattle.cs_top.specs.Views.{of_script, stop_ending}
 use Rattle.cs_top.specs.declared.lines.ScriptStop.{ScriptStop}
 use Rattle.cs_top.specs.declared.lines.ScriptStop.TheVariants as scripts
-use Rattle.cs_top.specs.declared.script.Came.TheVariants as came
+use Rattle.cs_top.specs.declared.script.WhatCame.TheVariants as came
 
 each_by : (A B : MayPut) → ((l t : List ℕ) → A l t → B l t) → (ls ts : List (List ℕ)) → OneEach A ls ts → OneEach B ls ts
 each_by A B f [] [] h = tt

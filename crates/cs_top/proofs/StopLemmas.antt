@@ -20,9 +20,9 @@ use Rattle.cs_model_sources.specs.CsvSources.{flat_of_csv}
 use Rattle.cs_model_sources.specs.JsonSources.{flat_of_jsonl}
 use Rattle.cs_model_sources.specs.SourceRefusals.{source_refusal}
 use Rattle.cs_model.specs.Outputs.{ScriptFault}
-use Rattle.cs_merge.specs.Merging.{refusal_of as merge_refusal_of}
+use Rattle.cs_merge.specs.Merging.{merge_refusal_of}
 use Rattle.cs_top.specs.CommandLine.{Ending, absent, changed, damaged, failed, merge_refused, no_memory, refused, script_refused}
-use Rattle.cs_top.specs.Import.{IsRefused, Refusal, form_of, of_collection, of_csv, of_jsonl}
+use Rattle.cs_top.specs.Import.{IsRefusedAs, Refusal, form_of, of_collection, of_csv, of_jsonl}
 use Rattle.cs_top.specs.Met.{Wrote}
 use Rattle.cs_top.specs.PutTexts.{EndsBy}
 use Rattle.cs_top.specs.ScriptRuns.{AskEnds, ReplayEnds}
@@ -31,7 +31,7 @@ use Rattle.cs_top.specs.declared.ending.RunStop.{RunStop}
 use Rattle.cs_top.specs.declared.ending.RunStop.TheVariants as stops
 use Rattle.cs_top.specs.declared.lines.ScriptStop.{ScriptStop}
 use Rattle.cs_top.specs.declared.lines.ScriptStop.TheVariants as scripts
-use Rattle.cs_top.specs.declared.script.Came.{Came}
+use Rattle.cs_top.specs.declared.script.WhatCame.{WhatCame}
 use Rattle.cs_top.specs.declared.sources.SourceFault.{SourceFault}
 use Rattle.cs_top.specs.declared.sources.SourceFault.TheVariants as sources
 use Rattle.cs_top.specs.declared.words.Form.{Form}
@@ -104,7 +104,7 @@ module _ (P : Ending → Type 0) where
   option_by made Q None h why memory = memory
   option_by made Q (Some a) h why memory = why a h
 
-  refusal_by : (form : Form) (b : List ℕ) (f : SourceFault) → IsSourceCause form b f → ((r : Refusal) → IsRefused form b r → P (refused r)) → P no_memory → P (collection_ending (source_refusal_of f))
+  refusal_by : (form : Form) (b : List ℕ) (f : SourceFault) → IsSourceCause form b f → ((r : Refusal) → IsRefusedAs form b r → P (refused r)) → P no_memory → P (collection_ending (source_refusal_of f))
   refusal_by forms.Collection b (sources.Collection f) h why memory = option_by of_collection (λ r. refusal b ≡ Some r) (collection_refusal_of f) h (λ r is. why (of_collection r) is) memory
   refusal_by forms.Csv b (sources.Csv f) h why memory = option_by of_csv (λ r. source_refusal flat_of_csv b ≡ Some r) (import_refusal_of f) h (λ r is. why (of_csv r) is) memory
   refusal_by forms.JsonLines b (sources.JsonLines f) h why memory = option_by of_jsonl (λ r. source_refusal flat_of_jsonl b ≡ Some r) (import_refusal_of f) h (λ r is. why (of_jsonl r) is) memory
@@ -115,7 +115,7 @@ module _ (P : Ending → Type 0) where
   refusal_by forms.JsonLines b (sources.Collection f) h why memory = absurd h
   refusal_by forms.JsonLines b (sources.Csv f) h why memory = absurd h
 
-  pub caused_by : (form : Form) (b : List ℕ) (s : RunStop) → IsOfSource form s → IsStopCause form b s → ((r : Refusal) → IsRefused form b r → P (refused r)) → P failed → P no_memory → P (stop_ending s)
+  pub caused_by : (form : Form) (b : List ℕ) (s : RunStop) → IsOfSource form s → IsStopCause form b s → ((r : Refusal) → IsRefusedAs form b r → P (refused r)) → P failed → P no_memory → P (stop_ending s)
   caused_by form b (stops.Collection f) is h why fault memory = refusal_by form b f h why memory
   caused_by form b stops.Failed is h why fault memory = fault
   caused_by form b stops.Memory is h why fault memory = memory
@@ -175,7 +175,7 @@ module _ (P : Ending → Type 0) where
   merged_by a b (stops.Script f) is why memory = absurd is
 
   -- of a result that is a script's stop
-  pub short_by : (form : HitForm) (w : Wrote) (r : Result Came ScriptStop) (x : ScriptStop) (s : RunStop) → ((f : ScriptFault) → EndsBy form (script_refused f) w → P (script_refused f)) → (EndsBy form failed w → P failed)
+  pub short_by : (form : HitForm) (w : Wrote) (r : Result WhatCame ScriptStop) (x : ScriptStop) (s : RunStop) → ((f : ScriptFault) → EndsBy form (script_refused f) w → P (script_refused f)) → (EndsBy form failed w → P failed)
       → r ≡ Err x → IfErr r (λ y. EndsBy form (stop_ending (of_script y)) w) → s ≡ of_script x → P (stop_ending s)
   short_by form w r x s line fault is ends from =
       subst (λ y. P (stop_ending y)) (sym from) (script_by x (subst (λ z. IfErr z (λ y. EndsBy form (stop_ending (of_script y)) w)) is ends))

@@ -14,8 +14,8 @@ use Rattle.cs_top.specs.Answering.{CameCounts, Costs, worst}
 use Rattle.cs_top.specs.CommandLine.{failed, script_refused}
 use Rattle.cs_top.specs.Met.{Wrote}
 use Rattle.cs_top.specs.ScriptEndings.{ShortTally, Tally}
-use Rattle.cs_top.specs.declared.script.Came.{Came}
-use Rattle.cs_top.specs.declared.script.Came.TheVariants.{Answered, Read, Changed}
+use Rattle.cs_top.specs.declared.script.WhatCame.{WhatCame}
+use Rattle.cs_top.specs.declared.script.WhatCame.TheVariants.{Answered, Read, Changed}
 
 none_failed : failed_reads [] ≡ 0
 unfolding failed_reads
@@ -47,14 +47,14 @@ rose_text false t n before count now e r l read =
     subst (λ x. RoseBy x before now) same (rose_kept n before count now r l)
 
 -- ---- what came
-pub read_first : (a b : Came) → worst a b ≢ Read → (a ≢ Read) × (b ≢ Read)
+pub read_first : (a b : WhatCame) → worst a b ≢ Read → (a ≢ Read) × (b ≢ Read)
 read_first Answered b h = ((λ e. cc e), h)
 read_first Read b h = absurd (h refl)
 read_first Changed Answered h = ((λ e. cc e), λ e. cc e)
 read_first Changed Read h = absurd (h refl)
 read_first Changed Changed h = ((λ e. cc e), λ e. cc e)
 
-pub not_changed : (a b : Came) → a ≢ Changed → b ≢ Changed → worst a b ≢ Changed
+pub not_changed : (a b : WhatCame) → a ≢ Changed → b ≢ Changed → worst a b ≢ Changed
 not_changed Answered b x y = y
 not_changed Read b x y = λ e. cc e
 not_changed Changed b x y = absurd (x refl)
@@ -63,26 +63,26 @@ clean_text : (b : Bool) (t : List ℕ) → bytes_eq t read_text ≡ b → t ≢ 
 clean_text true t e other = absurd (other ((bytes_eq-Decides t read_text).0 e))
 clean_text false t e other = one_is t false e
 
-pub not_read : (a b : Came) → a ≢ Read → b ≢ Read → worst a b ≢ Read
+pub not_read : (a b : WhatCame) → a ≢ Read → b ≢ Read → worst a b ≢ Read
 not_read Answered b x y = y
 not_read Read b x y = absurd (x refl)
 not_read Changed Answered x y = λ e. cc e
 not_read Changed Read x y = absurd (y refl)
 not_read Changed Changed x y = λ e. cc e
 
-which_read : (a b : Came) → worst a b ≡ Read → (a ≡ Read) ⊎ (b ≡ Read)
+which_read : (a b : WhatCame) → worst a b ≡ Read → (a ≡ Read) ⊎ (b ≡ Read)
 which_read Answered b e = inr e
 which_read Read b e = inl refl
 which_read Changed Answered e = absurd cc
 which_read Changed Read e = inr refl
 which_read Changed Changed e = absurd cc
 
-rose_by : (a b : Came) (n m k : ℕ) → CameCounts a n m → CameCounts b m k → (a ≡ Read) ⊎ (b ≡ Read) → Rose n k
+rose_by : (a b : WhatCame) (n m k : ℕ) → CameCounts a n m → CameCounts b m k → (a ≡ Read) ⊎ (b ≡ Read) → Rose n k
 rose_by a b n m k x y (inl e) = let r = x.read e in let l = y.later in omega (arith, r, l)
 rose_by a b n m k x y (inr e) = let r = y.read e in let l = x.later in omega (arith, r, l)
 
 -- what came of some lines and of more, by the counts
-pub counts_more : (a b : Came) (n m k : ℕ) → CameCounts a n m → CameCounts b m k → CameCounts (worst a b) n k
+pub counts_more : (a b : WhatCame) (n m k : ℕ) → CameCounts a n m → CameCounts b m k → CameCounts (worst a b) n k
 counts_more a b n m k x y = record {
   later = let l = x.later in let r = y.later in omega (arith, l, r);
   read = λ e. rose_by a b n m k x y (which_read a b e);
@@ -97,7 +97,7 @@ tally_none n m e = record {
   unchanged = λ e. cc e;
 }
 
-module _ (came met : Came) (before count now : ℕ) (ts : List (List ℕ)) where
+module _ (came met : WhatCame) (before count now : ℕ) (ts : List (List ℕ)) where
   -- behind a line without bytes
   pub tally_same : met ≡ Answered → now ≡ count → Tally came before count ts → Tally (worst came met) before now ts
   tally_same plain calm t = record {
@@ -123,13 +123,13 @@ module _ (came met : Came) (before count now : ℕ) (ts : List (List ℕ)) where
 not_failed : (f : ScriptFault) → script_refused f ≡ failed → ⊥
 not_failed f e = cc e
 
-pub short_here : (came : Came) (f : ScriptFault) (w : Wrote) (before count now : ℕ) (ts : List (List ℕ)) → now ≡ count → Tally came before count ts → ShortTally (script_refused f) w before now ts
+pub short_here : (came : WhatCame) (f : ScriptFault) (w : Wrote) (before count now : ℕ) (ts : List (List ℕ)) → now ≡ count → Tally came before count ts → ShortTally (script_refused f) w before now ts
 short_here came f w before count now ts calm t = record {
   rose = rose_kept (failed_reads ts) before count now t.rose (omega (arith, calm));
   more = λ e. absurd (not_failed f e);
 }
 
-pub short_failed : (came : Came) (w : Wrote) (before count now : ℕ) (ts : List (List ℕ)) → Tally came before count ts → Rose count now → ShortTally failed w before now ts
+pub short_failed : (came : WhatCame) (w : Wrote) (before count now : ℕ) (ts : List (List ℕ)) → Tally came before count ts → Rose count now → ShortTally failed w before now ts
 short_failed came w before count now ts t rose = record {
   rose = rose_less (failed_reads ts) before now (rose_more (failed_reads ts) before count now t.rose rose);
   more = λ e low. rose_more (failed_reads ts) before count now t.rose rose;
@@ -138,7 +138,7 @@ short_failed came w before count now ts t rose = record {
     rose_less : (n b c : ℕ) → RoseBy (n + 1) b c → RoseBy n b c
     rose_less n b c r = omega (arith, r)
 
-pub short_put : (came met : Came) (w : Wrote) (before count now : ℕ) (ts : List (List ℕ)) (t : List ℕ) → Rose w.before w.now → Tally came before count ts → Costs met count now t → ShortTally failed w before now (ts ++ t ∷ [])
+pub short_put : (came met : WhatCame) (w : Wrote) (before count now : ℕ) (ts : List (List ℕ)) (t : List ℕ) → Rose w.before w.now → Tally came before count ts → Costs met count now t → ShortTally failed w before now (ts ++ t ∷ [])
 short_put came met w before count now ts t rose h c = record {
   rose = (tally_more came met before count now ts t h c).rose;
   more = λ e low. absurd (low rose);

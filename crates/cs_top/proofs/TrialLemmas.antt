@@ -50,11 +50,11 @@ use Rattle.cs_top.specs.declared.collection.CollectionFault.{CollectionFault}
 use Rattle.cs_top.specs.Views.{IsCollectionCause, collection_refusal_of}
 use Rattle.cs_top.specs.Trial.{AddUp, AreFew, HasAsked, HasSizes, kept_after, sizes_of, with_one_reply}
 use Rattle.cs_trial.specs.Told.{told}
-use Rattle.cs_trial.specs.declared.counts.Counts.{Counts}
+use Rattle.cs_trial.specs.declared.counts.TrialCounts.{TrialCounts}
 
 -- ---- one reply more
 -- it counts for its plan
-record IsOneMore (p : Plan) (n : ℕ) (c d : Counts) : Type 0 where
+record IsOneMore (p : Plan) (n : ℕ) (c d : TrialCounts) : Type 0 where
   replies : d.replies ≡ c.replies + 1
   hits : d.hits ≡ c.hits + n
   same : d.same ≡ c.same + counted is_same (p ∷ [])
@@ -62,7 +62,7 @@ record IsOneMore (p : Plan) (n : ℕ) (c d : Counts) : Type 0 where
   extend : d.extend ≡ c.extend + counted is_extend (p ∷ [])
   fresh : d.fresh ≡ c.fresh + counted is_fresh (p ∷ [])
 
-one_more : (p : Plan) (n : ℕ) (c : Counts) → IsOneMore p n c (with_one_reply p n c)
+one_more : (p : Plan) (n : ℕ) (c : TrialCounts) → IsOneMore p n c (with_one_reply p n c)
 one_more Same n c = record { replies = refl; hits = refl; same = refl; narrow = sym (add-zero c.narrow); extend = sym (add-zero c.extend); fresh = sym (add-zero c.fresh) }
 one_more (Narrow cut) n c = record { replies = refl; hits = refl; same = sym (add-zero c.same); narrow = refl; extend = sym (add-zero c.extend); fresh = sym (add-zero c.fresh) }
 one_more Extend n c = record { replies = refl; hits = refl; same = sym (add-zero c.same); narrow = sym (add-zero c.narrow); extend = refl; fresh = sym (add-zero c.fresh) }
@@ -94,7 +94,7 @@ module _ (k : Corpus) where
         ∙ ap length (filter-append test (plans k MAX_ENTRIES [] qs) (p ∷ []))
         ∙ length-append (filter test (plans k MAX_ENTRIES [] qs)) (filter test (p ∷ []))
 
-    added : (c d : Counts) → IsOneMore p (length (hits k (parts_of k q))) c d → AddUp k qs c → AddUp k (qs ++ q ∷ []) d
+    added : (c d : TrialCounts) → IsOneMore p (length (hits k (parts_of k q))) c d → AddUp k qs c → AddUp k (qs ++ q ∷ []) d
     added c d more a = record {
       replies = let up = more.replies in let now = a.replies in let long = length-append qs (q ∷ []) in omega (arith, up, now, long);
       hits = more.hits ∙ ap (λ n. n + length (hits k (parts_of k q))) a.hits ∙ sym (hits_push qs q);
@@ -104,16 +104,16 @@ module _ (k : Corpus) where
       fresh = more.fresh ∙ ap (λ n. n + counted is_fresh (p ∷ [])) a.fresh ∙ sym (counted_push is_fresh);
     }
 
-  add_more : (qs : List Query) (q : Query) (p : Plan) (c : Counts) → p ≡ plan (kept_after k [] qs) q → AddUp k qs c → AddUp k (qs ++ q ∷ []) (with_one_reply p (length (hits k (parts_of k q))) c)
+  add_more : (qs : List Query) (q : Query) (p : Plan) (c : TrialCounts) → p ≡ plan (kept_after k [] qs) q → AddUp k qs c → AddUp k (qs ++ q ∷ []) (with_one_reply p (length (hits k (parts_of k q))) c)
   add_more qs q p c is a = added qs q p is c (with_one_reply p (length (hits k (parts_of k q))) c) (one_more p (length (hits k (parts_of k q))) c) a
 
 -- ---- how an engine stands
-none_added : (k : Corpus) (c : Counts) → AreFew 0 c → AddUp k [] c
+none_added : (k : Corpus) (c : TrialCounts) → AreFew 0 c → AddUp k [] c
 unfolding hits_found trial_plans
 none_added k c f = let a = f.replies in let b = f.hits in let s = f.same in let w = f.narrow in let e = f.extend in let r = f.fresh in
     record { replies = omega arith; hits = omega arith; same = omega arith; narrow = omega arith; extend = omega arith; fresh = omega arith }
 
-pub asked_none : (b : List ℕ) (e : EngineView) (c : Counts) → StandsFor b e.index → AreGood b e → e.answers.entries ≡ [] → e.answers.capacity ≡ MAX_ENTRIES → AreFew 0 c → HasAsked b [] e c
+pub asked_none : (b : List ℕ) (e : EngineView) (c : TrialCounts) → StandsFor b e.index → AreGood b e → e.answers.entries ≡ [] → e.answers.capacity ≡ MAX_ENTRIES → AreFew 0 c → HasAsked b [] e c
 asked_none b e c stands good none room few = record {
   stands = stands;
   good = good;
@@ -122,7 +122,7 @@ asked_none b e c stands good none room few = record {
   counts = none_added (file_corpus b) c few;
 }
 
-module _ (b : List ℕ) (qs : List Query) (q : Query) (old new : EngineView) (r : Reply × Note) (c : Counts) (h : HasAsked b qs old c) (keeps : KeepsAnswers old.index q old.answers (Ok r) new.answers) where
+module _ (b : List ℕ) (qs : List Query) (q : Query) (old new : EngineView) (r : Reply × Note) (c : TrialCounts) (h : HasAsked b qs old c) (keeps : KeepsAnswers old.index q old.answers (Ok r) new.answers) where
   plan_is : r.1.plan ≡ plan (kept_after (file_corpus b) [] qs) q
   unfolding plan
   plan_is = keeps.1 ∙ sym (numbers_plan_alike old.index.words old.answers.entries (keys_of q)) ∙ ap (λ held. plan_by held (keys_of q)) h.kept
@@ -176,14 +176,14 @@ pub ok_then : {T E : Type 0} (r : Result T E) {P Q : T → Type 0} → IfOk r P 
 ok_then (Ok x) h f = f x h
 ok_then (Err e) h f = tt
 
-pub told_is : (n : ℕ) (k : Corpus) (c : Counts) (documents rows blocks : ℕ) → sizes_of c ≡ (documents, rows, blocks) → HasSizes k documents rows → AddUp k (queries n) c → told c ≡ counts n k blocks
+pub told_is : (n : ℕ) (k : Corpus) (c : TrialCounts) (documents rows blocks : ℕ) → sizes_of c ≡ (documents, rows, blocks) → HasSizes k documents rows → AddUp k (queries n) c → told c ≡ counts n k blocks
 told_is n k c documents rows blocks sizes has a =
     let d : c.documents ≡ length (fin.keys k.titles) = ap (λ x. x.0) sizes ∙ has.documents in
     let r : c.rows ≡ length k.rows = ap (λ x. x.1) sizes ∙ has.rows in
     let b : c.blocks ≡ blocks = ap (λ x. x.2) sizes in
     rw (d, r, b, a.replies, a.hits, a.same, a.narrow, a.extend, a.fresh) refl
 
-pub summed : (n : ℕ) (i : Image) (c : Counts) (t : List ℕ) → IsImage (trial_corpus n) TARGET USUAL_WEIGHTS i → told c ≡ counts n (trial_corpus n) (length i.heads) → t ≡ flat_map summary_line (told c) → IsSummary n t
+pub summed : (n : ℕ) (i : Image) (c : TrialCounts) (t : List ℕ) → IsImage (trial_corpus n) TARGET USUAL_WEIGHTS i → told c ≡ counts n (trial_corpus n) (length i.heads) → t ≡ flat_map summary_line (told c) → IsSummary n t
 unfolding summary
 summed n i c t is same text = record { image = i; indexed = is; told = text ∙ ap (flat_map summary_line) same }
 

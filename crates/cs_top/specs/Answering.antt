@@ -8,7 +8,7 @@
 --   IsReplayed k l t           t may be put for the line over an index file: its text, the memory text, or in a reply's place that of a
 --                              failed read
 --   MayAnswer docs f k         what may be put for a line over this file, with these documents at hand for excerpts
---   Came                       what came of the lines so far: only answers, or a failed read or a change too
+--   WhatCame                   what came of the lines so far: only answers, or a failed read or a change too
 --   worst a b                  what came of some lines and of more
 --   CameCounts came before now     a count of failures rose where a failed read came, and else stayed
 --   CameOver e f h came ..     what may come of lines over an engine, a file and files, with its count
@@ -30,8 +30,8 @@ use Rattle.cs_model.specs.Requests.{Request, reply_of}
 use Rattle.cs_model_index.specs.Sections.{file_corpus}
 use Rattle.cs_top.specs.HitForms.{AtHand, MayShow, shown_reply}
 use Rattle.cs_top.specs.Met.{HasToldSize}
-use Rattle.cs_top.specs.declared.script.Came.{Came}
-use Rattle.cs_top.specs.declared.script.Came.TheVariants.{Answered, Read, Changed}
+use Rattle.cs_top.specs.declared.script.WhatCame.{WhatCame}
+use Rattle.cs_top.specs.declared.script.WhatCame.TheVariants.{Answered, Read, Changed}
 use Rattle.cs_top.specs.declared.script.answers.Answer.{Answer}
 use Rattle.cs_top.specs.declared.script.answers.Answer.TheVariants as answers
 
@@ -71,33 +71,33 @@ abbrev pub MayAnswer : AtHand → FileView → Corpus → MayPut
 MayAnswer docs f k l t = MayShow docs k l t ⊎ ((f.made ≡ None) × (request_refusal l ≡ None) × (t ≡ read_text))
 
 -- a failed read goes before a change, and a change before answers
-abbrev pub worst : Came → Came → Came
+abbrev pub worst : WhatCame → WhatCame → WhatCame
 worst Read b = Read
 worst Changed Read = Read
 worst Changed b = Changed
 worst Answered b = b
 
 -- where a failed read came it rose, and else it is as it was; it never falls
-pub record CameCounts (came : Came) (before now : ℕ) : Type 0 where
+pub record CameCounts (came : WhatCame) (before now : ℕ) : Type 0 where
   pub later : before ≤ now
   pub read : came ≡ Read → Rose before now
   pub quiet : came ≢ Read → now ≡ before
 
 -- no change over a corpus that is answered, and no failed read over a file in memory; of no lines nothing but answers
-pub record CameOver (e : EngineView) (f : FileView) (held : Option Held) (came : Came) (before now : ℕ) : Type 0 where
+pub record CameOver (e : EngineView) (f : FileView) (held : Option Held) (came : WhatCame) (before now : ℕ) : Type 0 where
   pub unchanged : (k : Corpus) → AnswersOver e f held k → came ≢ Changed
   pub unread : is_some f.made ≡ true → came ≢ Read
   pub counts : CameCounts came before now
 
 -- a failed read costs, and where none is said to have come there is no such text; no change comes
-pub record Costs (came : Came) (before now : ℕ) (t : List ℕ) : Type 0 where
+pub record Costs (came : WhatCame) (before now : ℕ) (t : List ℕ) : Type 0 where
   pub later : before ≤ now
   pub read : t ≡ read_text → Rose before now
   pub clean : came ≢ Read → t ≢ read_text
   pub unchanged : came ≢ Changed
 
 -- by what is put for it
-abbrev pub came_of_answer : Answer → Came
+abbrev pub came_of_answer : Answer → WhatCame
 came_of_answer (answers.Text b) = Answered
 came_of_answer answers.Memory = Answered
 came_of_answer answers.Read = Read

@@ -18,14 +18,14 @@ use Rattle.cs_model_index.specs.Images.{Image, IsImage}
 use Rattle.cs_model_index.specs.Layout.{file}
 use Rattle.cs_model_index.specs.declared.limits.TheConstants.{TARGET}
 use Rattle.cs_top.specs.CommandLine.{Ending, done, refused, absent, failed, no_memory, CausedBy}
-use Rattle.cs_top.specs.Import.{IsAccepted, IsRefused, collection_in, form_of}
+use Rattle.cs_top.specs.Import.{IsAcceptedAs, IsRefusedAs, collection_in, form_of}
 use Rattle.cs_top.specs.Met.{Met, held_bytes}
 use Rattle.cs_top.specs.declared.words.Form.{Form}
 
 -- ---- over files that tell
 -- the source is held and accepted
 abbrev pub CanBuild : Form → Held → List ℕ → Type 0
-CanBuild form h c = IsHeld (map.get h c) × IsAccepted form (held_bytes h c)
+CanBuild form h c = IsHeld (map.get h c) × IsAcceptedAs form (held_bytes h c)
 
 -- the image of the corpus of the source's collection, for the target of index files and the collection's weights; the empty source has one too
 abbrev pub HasImage : Form → Held → List ℕ → Image → Type 0
@@ -40,7 +40,7 @@ IsBegun old name b new = (new ≡ old) ⊎ ((f : File) × (k : ℕ) × (f.bytes 
 -- stream, which is read whole for it; where they find none, that call fails.
 abbrev pub BuildStops : Form → Ending → Held → List ℕ → Type 0
 BuildStops form (absent name) h c = (name ≡ c) × (map.get h c ≡ None)
-BuildStops form (refused r) h c = IsHeld (map.get h c) × IsRefused form (held_bytes h c) r
+BuildStops form (refused r) h c = IsHeld (map.get h c) × IsRefusedAs form (held_bytes h c) r
 BuildStops form no_memory h c = IsHeld (map.get h c)
 BuildStops form failed h c = Unit {0}
 BuildStops form e h c = ⊥

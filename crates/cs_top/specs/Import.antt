@@ -4,8 +4,8 @@
 --   Refusal                  why a source isn't accepted, for each form
 --   form_of r                the form of the source that r refuses
 --   refused_words r          the refusal r in words
---   IsAccepted form b        a source is accepted
---   IsRefused form b r       a source is refused for r
+--   IsAcceptedAs form b      a source is accepted
+--   IsRefusedAs form b r     a source is refused for r
 use Rattle.std.specs.Prelude.{◌≡◌, ℕ, List, Some, None}
 use Rattle.cs_model.specs.Collection.{CollectionRefusal, refusal_words}
 use Rattle.cs_model.specs.Corpus.{refusal}
@@ -40,14 +40,14 @@ refused_words (of_csv r) = csv_words r
 refused_words (of_jsonl r) = jsonl_words r
 
 -- no rule refuses it, and no line of it is bad
-abbrev pub IsAccepted : Form → List ℕ → Type 0
-IsAccepted forms.Collection b = refusal b ≡ None
-IsAccepted forms.Csv b = source_refusal flat_of_csv b ≡ None
-IsAccepted forms.JsonLines b = source_refusal flat_of_jsonl b ≡ None
+abbrev pub IsAcceptedAs : Form → List ℕ → Type 0
+IsAcceptedAs forms.Collection b = refusal b ≡ None
+IsAcceptedAs forms.Csv b = source_refusal flat_of_csv b ≡ None
+IsAcceptedAs forms.JsonLines b = source_refusal flat_of_jsonl b ≡ None
 
 -- r is the first refusal; a source has none of another form
-abbrev pub IsRefused : Form → List ℕ → Refusal → Type 0
-IsRefused forms.Collection b (of_collection r) = refusal b ≡ Some r
-IsRefused forms.Csv b (of_csv r) = source_refusal flat_of_csv b ≡ Some r
-IsRefused forms.JsonLines b (of_jsonl r) = source_refusal flat_of_jsonl b ≡ Some r
-IsRefused form b r = ⊥
+abbrev pub IsRefusedAs : Form → List ℕ → Refusal → Type 0
+IsRefusedAs forms.Collection b (of_collection r) = refusal b ≡ Some r
+IsRefusedAs forms.Csv b (of_csv r) = source_refusal flat_of_csv b ≡ Some r
+IsRefusedAs forms.JsonLines b (of_jsonl r) = source_refusal flat_of_jsonl b ≡ Some r
+IsRefusedAs form b r = ⊥

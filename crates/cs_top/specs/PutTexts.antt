@@ -25,8 +25,8 @@ use Rattle.cs_top.specs.CommandLine.{Ending, done, failed, script_refused, chang
 use Rattle.cs_top.specs.HitForms.{IsReplyIn}
 use Rattle.cs_top.specs.Met.{Wrote}
 use Rattle.cs_top.specs.declared.words.HitForm.{HitForm}
-use Rattle.cs_top.specs.declared.script.Came.{Came}
-use Rattle.cs_top.specs.declared.script.Came.TheVariants.{Answered, Read, Changed}
+use Rattle.cs_top.specs.declared.script.WhatCame.{WhatCame}
+use Rattle.cs_top.specs.declared.script.WhatCame.TheVariants.{Answered, Read, Changed}
 use Rattle.cs_top.specs.declared.script.answers.Answer.{Answer}
 use Rattle.cs_top.specs.declared.script.answers.Answer.TheVariants as answers
 
@@ -39,14 +39,14 @@ abbrev pub IsLineText : HitForm → List ℕ → Type 0
 IsLineText form t = IsOwnText form t ⊎ ((t ≡ read_text) ⊎ IsChangedText t)
 
 -- a change has the text of want of memory where there is no memory for its own
-abbrev pub TextBy : HitForm → Came → List ℕ → Type 0
+abbrev pub TextBy : HitForm → WhatCame → List ℕ → Type 0
 TextBy form Answered t = IsOwnText form t
 TextBy form Read t = t ≡ read_text
 TextBy form Changed t = IsChangedText t ⊎ (t ≡ memory_text)
 
 -- Where no failed read came none of them has the text of one, and where each line was answered none has that of a changed index file;
 -- where a change came some one has the text of a change.
-pub record TextsBy (form : HitForm) (came : Came) (ts : List (List ℕ)) : Type 0 where
+pub record TextsBy (form : HitForm) (came : WhatCame) (ts : List (List ℕ)) : Type 0 where
   pub each : All (IsLineText form) ts
   pub unread : came ≢ Read → All (λ t. t ≢ read_text) ts
   pub unchanged : came ≡ Answered → All (λ t. ¬ IsChangedText t) ts
@@ -62,17 +62,17 @@ IsChangeLine i told (answers.Changed (Some b)) = (rule : ℕ) × (at : ℕ) × B
 IsChangeLine i told a = Unit {0}
 
 -- a line without bytes counts as answered
-abbrev pub PutsLine : HitForm → Came → Option (List ℕ) → Option (List ℕ) → Type 0
+abbrev pub PutsLine : HitForm → WhatCame → Option (List ℕ) → Option (List ℕ) → Type 0
 PutsLine form came old new = ((came ≡ Answered) × (new ≡ old)) ⊎ ((t : List ℕ) × TextBy form came t × Grew old (t ++ 10 ∷ []) new)
 
 -- at a refused line nothing is put; nor where the files failed, and where out did some first bytes of a text
 abbrev pub CutsLine : HitForm → Ending → Wrote → Type 0
 CutsLine form (script_refused f) w = w.new ≡ w.old
-CutsLine form failed w = (w.new ≡ w.old) ⊎ (Rose w.before w.now × ((came : Came) × (t : List ℕ) × TextBy form came t × GrewByPrefix w.old (t ++ 10 ∷ []) w.new))
+CutsLine form failed w = (w.new ≡ w.old) ⊎ (Rose w.before w.now × ((came : WhatCame) × (t : List ℕ) × TextBy form came t × GrewByPrefix w.old (t ++ 10 ∷ []) w.new))
 CutsLine form e w = ⊥
 
 -- what a sink tells grew by such texts, each with its line ending; of no lines by nothing
-abbrev pub PutsTexts : HitForm → Came → Option (List ℕ) → Option (List ℕ) → Type 0
+abbrev pub PutsTexts : HitForm → WhatCame → Option (List ℕ) → Option (List ℕ) → Type 0
 PutsTexts form came old new = (ts : List (List ℕ)) × TextsBy form came ts × Grew old (put_of ts) new
 
 -- Done: each line was answered. Changed: some line has the text of a change, and none that of a failed read. At a refused line and at a

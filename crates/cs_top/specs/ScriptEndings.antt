@@ -20,8 +20,8 @@ use Rattle.cs_hub.specs.Streams.{RoseBy}
 use Rattle.cs_model.specs.Outputs.{MayPut, PutAll, PutSome, put_of, failed_reads, first_fault, readable_lines, line_fault}
 use Rattle.cs_top.specs.CommandLine.{Ending, done, failed, script_refused}
 use Rattle.cs_top.specs.Met.{Wrote}
-use Rattle.cs_top.specs.declared.script.Came.{Came}
-use Rattle.cs_top.specs.declared.script.Came.TheVariants.{Read, Changed, Answered}
+use Rattle.cs_top.specs.declared.script.WhatCame.{WhatCame}
+use Rattle.cs_top.specs.declared.script.WhatCame.TheVariants.{Read, Changed, Answered}
 use Rattle.std.specs.Str.Lines.{lines}
 use Rattle.cs_base.specs.declared.content.limits.TheConstants.{MAX_SCRIPT_LINE_BYTES}
 use Rattle.cs_top.specs.Answering.{Costs}
@@ -36,7 +36,7 @@ ScriptEnds A failed ls ts w = PutSome A (readable_lines ls) ts w.old w.new × (�
 ScriptEnds A e ls ts w = ⊥
 
 -- of no texts that the count didn't fall
-pub record Tally (came : Came) (before now : ℕ) (ts : List (List ℕ)) : Type 0 where
+pub record Tally (came : WhatCame) (before now : ℕ) (ts : List (List ℕ)) : Type 0 where
   pub rose : RoseBy (failed_reads ts) before now
   pub clean : came ≢ Read → failed_reads ts ≡ 0
   pub unchanged : came ≢ Changed
@@ -56,7 +56,7 @@ abbrev pub IsReadable : List (ℕ × List ℕ) → Type 0
 IsReadable ls = first_fault ls ≡ None
 
 -- the line is passed: it has no bytes, and nothing was put; or it is read, and a text was put for it whole, by what came of it
-abbrev pub Passes : MayPut → ℕ × List ℕ → Option (List ℕ) → Option (List ℕ) → Came → ℕ → ℕ → Type 0
+abbrev pub Passes : MayPut → ℕ × List ℕ → Option (List ℕ) → Option (List ℕ) → WhatCame → ℕ → ℕ → Type 0
 Passes A l old new came before now =
     ((l.1 ≡ []) × (new ≡ old) × (came ≡ Answered) × (now ≡ before))
     ⊎ ((l.1 ≢ []) × (line_fault l ≡ None) × ((t : List ℕ) × A l.1 t × Costs came before now t × Grew old (t ++ 10 ∷ []) new))
@@ -64,7 +64,7 @@ Passes A l old new came before now =
 -- the script ends so at the line, before a text was put for it whole; it ends at no line in another way
 abbrev pub StopsAt : MayPut → Ending → ℕ × List ℕ → Wrote → ℕ → ℕ → Type 0
 StopsAt A (script_refused f) l w before now = (l.1 ≢ []) × (line_fault l ≡ Some f) × (w.new ≡ w.old) × (now ≡ before)
-StopsAt A failed l w before now = (l.1 ≢ []) × (line_fault l ≡ None) × Rose w.before w.now × ((came : Came) × (t : List ℕ) × A l.1 t × Costs came before now t × GrewByPrefix w.old (t ++ 10 ∷ []) w.new)
+StopsAt A failed l w before now = (l.1 ≢ []) × (line_fault l ≡ None) × Rose w.before w.now × ((came : WhatCame) × (t : List ℕ) × A l.1 t × Costs came before now t × GrewByPrefix w.old (t ++ 10 ∷ []) w.new)
 StopsAt A e l w before now = ⊥
 
 -- l is the first line of the bytes s, and these stand behind it; or both l and that line have too many bytes
@@ -74,7 +74,7 @@ IsFirstLine s l behind =
     ⊎ ((MAX_SCRIPT_LINE_BYTES < length l) × ((first : List ℕ) × (ls : List (List ℕ)) × (lines s ≡ first ∷ ls) × (MAX_SCRIPT_LINE_BYTES < length first)))
 
 -- from one place of a script to the next, one line was met and passed
-abbrev pub Reaches : MayPut → List ℕ → Place → Place → Option (List ℕ) → Option (List ℕ) → Came → ℕ → ℕ → Type 0
+abbrev pub Reaches : MayPut → List ℕ → Place → Place → Option (List ℕ) → Option (List ℕ) → WhatCame → ℕ → ℕ → Type 0
 Reaches A s p q old new came before now =
     (l : List ℕ) × (lines (drop p.at s) ≡ l ∷ lines (drop q.at s)) × (q.number ≡ p.number + 1) × Passes A (q.number, l) old new came before now
 

@@ -29,7 +29,7 @@ use Rattle.cs_model.specs.Outputs.{IsAnswer, script_lines, PutAll, failed_reads,
 use Rattle.cs_top.specs.CommandLine.{Ending, usage, refused, absent, damaged, changed, failed, no_memory, Caused, done, script_refused}
 use Rattle.cs_top.specs.HitForms.{AreDocumentsOf, AtHand, IsAnswerIn}
 use Rattle.cs_top.specs.Filed.{IsFiled}
-use Rattle.cs_top.specs.Import.{IsRefused, form_of}
+use Rattle.cs_top.specs.Import.{IsRefusedAs, form_of}
 use Rattle.cs_top.specs.Met.{Met, Wrote, held_bytes}
 use Rattle.cs_top.specs.PutTexts.{EndsBy}
 use Rattle.cs_top.specs.ScriptEndings.{ScriptEnds, IsReadable}
@@ -65,7 +65,7 @@ pub record IsAskedOver (h : Held) (c s : List ℕ) (docs : AtHand) (i : Image) :
 -- tell a size, as that of a stream, which is read whole for it; where they find none, that call fails.
 abbrev pub AskStops : Ending → Held → List ℕ → List ℕ → Type 0
 AskStops (absent name) h c s = ((name ≡ c) × (map.get h c ≡ None)) ⊎ ((name ≡ s) × IsHeld (map.get h c) × (map.get h s ≡ None))
-AskStops (refused r) h c s = AreHeld h c s × IsRefused forms.Collection (held_bytes h c) r
+AskStops (refused r) h c s = AreHeld h c s × IsRefusedAs forms.Collection (held_bytes h c) r
 AskStops no_memory h c s = AreHeld h c s
 AskStops failed h c s = Unit {0}
 AskStops e h c s = ⊥

@@ -26,7 +26,7 @@ use Rattle.cs_model_kept.specs.declared.limits.TheConstants.{MAX_ENTRIES}
 use Rattle.cs_model_trial.specs.Summary.{IsSummary, counted, hits_found, is_extend, is_fresh, is_narrow, trial_plans}
 use Rattle.cs_top.specs.CommandLine.{Ending, done, failed, no_memory, CausedBy}
 use Rattle.cs_top.specs.Met.{Met, Wrote}
-use Rattle.cs_trial.specs.declared.counts.Counts.{Counts}
+use Rattle.cs_trial.specs.declared.counts.TrialCounts.{TrialCounts}
 
 -- what is kept after queries that are asked one after the other; of no queries the list itself
 abbrev pub kept_after : Corpus → KeptList → List Query → KeptList
@@ -34,18 +34,18 @@ kept_after k held [] = held
 kept_after k held (q ∷ qs) = kept_after k (after_own held MAX_ENTRIES q k) qs
 
 -- a reply with n hits, which may be none, counts for its plan
-abbrev pub with_one_reply : Plan → ℕ → Counts → Counts
+abbrev pub with_one_reply : Plan → ℕ → TrialCounts → TrialCounts
 with_one_reply Same n c = record c { replies = c.replies + 1; hits = c.hits + n; same = c.same + 1 }
 with_one_reply (Narrow cut) n c = record c { replies = c.replies + 1; hits = c.hits + n; narrow = c.narrow + 1 }
 with_one_reply Extend n c = record c { replies = c.replies + 1; hits = c.hits + n; extend = c.extend + 1 }
 with_one_reply Fresh n c = record c { replies = c.replies + 1; hits = c.hits + n; fresh = c.fresh + 1 }
 
 -- documents, rows and blocks among the counts
-abbrev pub sizes_of : Counts → ℕ × ℕ × ℕ
+abbrev pub sizes_of : TrialCounts → ℕ × ℕ × ℕ
 sizes_of c = (c.documents, c.rows, c.blocks)
 
 -- the replies, their hits and their plans are counted, from nothing kept on; of no queries each count is 0
-pub record AddUp (k : Corpus) (qs : List Query) (c : Counts) : Type 0 where
+pub record AddUp (k : Corpus) (qs : List Query) (c : TrialCounts) : Type 0 where
   pub replies : c.replies ≡ length qs
   pub hits : c.hits ≡ hits_found k qs
   pub same : c.same ≡ counted is_same (trial_plans k qs)
@@ -60,7 +60,7 @@ pub record HasSizes (k : Corpus) (docs count : ℕ) : Type 0 where
 
 -- the engine's index is that of the bytes, what it keeps is good and is what the queries leave of nothing kept, and the counts are those
 -- of the replies
-pub record HasAsked (b : List ℕ) (qs : List Query) (e : EngineView) (c : Counts) : Type 0 where
+pub record HasAsked (b : List ℕ) (qs : List Query) (e : EngineView) (c : TrialCounts) : Type 0 where
   pub stands : StandsFor b e.index
   pub good : AreGood b e
   pub room : e.answers.capacity ≡ MAX_ENTRIES
@@ -73,7 +73,7 @@ pub record IsSteady (b b' : List ℕ) (e e' : EngineView) : Type 0 where
   pub bytes : b' ≡ b
 
 -- at most n replies, each with fewer than 2^32 hits
-pub record AreFew (n : ℕ) (c : Counts) : Type 0 where
+pub record AreFew (n : ℕ) (c : TrialCounts) : Type 0 where
   pub replies : c.replies ≤ n
   pub hits : c.hits ≤ n * 2 ^ 32
   pub same : c.same ≤ n

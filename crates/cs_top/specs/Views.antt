@@ -51,7 +51,7 @@ use Rattle.cs_more.specs.declared.fault.FlatFault.{FlatFault}
 use Rattle.cs_more.specs.declared.fault.FlatFault.TheVariants as sizes
 use Rattle.cs_docs.specs.FaultRefusals.{refusal_of, rows_refusal_of, words_said}
 use Rattle.cs_build.specs.Building.{build_refusal_of}
-use Rattle.cs_merge.specs.Merging.{IsCause, refusal_of as merge_refusal_of}
+use Rattle.cs_merge.specs.Merging.{NamesRefusal, merge_refusal_of}
 use Rattle.cs_top.specs.CommandLine.{Command, build, ask, replay, serve, trial, upgrade, merge, is_number, Ending, done, usage, refused, damaged, absent, failed, no_memory, script_refused, changed, merge_refused, CausedBy}
 use Rattle.cs_top.specs.Answering.{FileView}
 use Rattle.cs_top.specs.Import.{Refusal, of_collection, of_csv, of_jsonl}
@@ -256,7 +256,7 @@ IsWholeCause b s = ⊥
 
 -- a run stops there in no other way
 abbrev pub IsMergeCause : Image → Image → RunStop → Type 0
-IsMergeCause a b (stops.Merge f) = IsCause a b f
+IsMergeCause a b (stops.Merge f) = NamesRefusal a b f
 IsMergeCause a b s = ⊥
 
 -- its words with an LF behind them

@@ -14,9 +14,9 @@ ghost use Rattle.cs_top.specs.declared.words.HitForm.{HitForm};
 use crate::answering::IndexFile;
 use crate::collection::documents_of;
 use crate::ending::RunStop;
-use crate::files::{HeldFile, size_of};
+use crate::files::{HeldFile, told_size};
 use crate::opening::open_image;
-use crate::script::{Came, answer_script};
+use crate::script::{WhatCame, answer_script};
 use crate::showing::Showing;
 use crate::sources::read_collection;
 use crate::words::HitForm;
@@ -71,8 +71,8 @@ fn prepare<'a, F: Files>(
     ensures ends { IfErr result (λ s. (form : HitForm) (w : Wrote) → w.new ≡ w.old → AskEnds form (stop_ending s) collection.now script.now w) }
     ensures reads { ReadsFiles (F.held files.old) (F.held files.new) (F.faults files.old) (F.faults files.new) result }
 {
-    let size = size_of(files, collection)?;
-    let script_size = size_of(files, script)?;
+    let size = told_size(files, collection)?;
+    let script_size = told_size(files, script)?;
     let collection = HeldFile {
         name: collection,
         size,
@@ -101,9 +101,9 @@ fn answer_over<'a, F: Files, O: Sink>(
     let (mut engine, store) = open_image(showing.alloc, image, Vec::new(showing.alloc))?;
     let mut file = IndexFile::made(store);
     match answer_script(showing, &mut engine, &mut file, files, script, out) {
-        Ok(Came::Answered) => Ok(()),
-        Ok(Came::Read) => unreachable!(),
-        Ok(Came::Changed) => unreachable!(),
+        Ok(WhatCame::Answered) => Ok(()),
+        Ok(WhatCame::Read) => unreachable!(),
+        Ok(WhatCame::Changed) => unreachable!(),
         Err(stop) => Err(RunStop::from(stop)),
     }
 }

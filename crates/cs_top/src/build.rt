@@ -5,9 +5,9 @@ ghost use Rattle.cs_top.specs.CommandLine.{CausedBy};
 ghost use Rattle.cs_top.specs.Views.{ended};
 
 use crate::ending::RunStop;
-use crate::files::{HeldFile, size_of};
+use crate::files::{HeldFile, told_size};
 use crate::saving::save;
-use crate::sources::read_image;
+use crate::sources::source_image;
 use crate::words::Form;
 use cs_base::Files;
 use std::alloc::Global;
@@ -24,9 +24,9 @@ pub(crate) fn build<'a, F: Files>(
     ensures told { ForSome (F.held files.old) (λ h. BuildTold form (ended result) h source.now index.now (F.held files.new)) }
     ensures caused { CausedBy (ended result) (F.faults files.old) (F.faults files.new) }
 {
-    let size = size_of(files, source)?;
+    let size = told_size(files, source)?;
     let source = HeldFile { name: source, size };
-    let image = read_image(alloc, files, form, source)?;
+    let image = source_image(alloc, files, form, source)?;
     save(alloc, &image, files, index)?;
     Ok(())
 }

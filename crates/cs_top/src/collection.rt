@@ -58,7 +58,7 @@ pub(crate) struct Imaged {
 }
 
 /// The image of a collection that is accepted.
-pub(crate) fn image_of(alloc: Global, bytes: &[u8]) -> Result<Imaged, CollectionFault>
+pub(crate) fn image_of_collection(alloc: Global, bytes: &[u8]) -> Result<Imaged, CollectionFault>
     ensures ok { IfOk result (λ i. IsFiled (corpus bytes.now) (weights bytes.now) i.image) }
     ensures accepted { OnOk result (refusal bytes.now ≡ None) }
     ensures file { IfOk result (λ i. HasFile i.image) }

@@ -9,9 +9,9 @@ ghost use Rattle.cs_top.specs.Views.{ended};
 use crate::ask::ask;
 use crate::build::build;
 use crate::ending::{RunStop, status_of, tell};
-use crate::merge::merge;
+use crate::merge::merge_indexes;
 use crate::replay::replay;
-use crate::serve::serve;
+use crate::serve::serve_index;
 use crate::trial::trial;
 use crate::upgrade::upgrade;
 use crate::words::{Command, command_of};
@@ -74,10 +74,12 @@ fn carry_out<'a, F: Files, H: Hub, O: Sink>(
         ) => ask(alloc, form, collection, script, files, out),
         Some(Command::Replay { index, script }) => replay(alloc, index, script, files, out),
         Some(Command::Serve { index, port, conns }) => {
-            serve(alloc, index, port, conns, files, hub, out)
+            serve_index(alloc, index, port, conns, files, hub, out)
         }
         Some(Command::Trial { number }) => trial(alloc, number, out),
         Some(Command::Upgrade { index, new }) => upgrade(alloc, index, new, files),
-        Some(Command::Merge { first, second, new }) => merge(alloc, first, second, new, files),
+        Some(Command::Merge { first, second, new }) => merge_indexes(
+            alloc, first, second, new, files,
+        ),
     }
 }

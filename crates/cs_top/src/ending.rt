@@ -1,7 +1,7 @@
 //! How a run ends: its status, and what is said of it.
 ghost use Rattle.std.specs.Prelude.{◌≡◌, ◌++◌, ◌∷◌, [], codes};
 ghost use Rattle.cs_docs.specs.FaultRefusals.{reason_text};
-ghost use Rattle.cs_merge.specs.Merging.{refusal_of};
+ghost use Rattle.cs_merge.specs.Merging.{merge_refusal_of};
 ghost use Rattle.cs_top.specs.CommandLine.{status, line_of, SaysLine};
 ghost use Rattle.cs_top.specs.Met.{wrote};
 ghost use Rattle.cs_top.specs.Views.{collection_ending, ended, merge_ending, of_script, said_text, source_refusal_of, stop_ending};
@@ -150,7 +150,7 @@ fn said_of_collection(fault: SourceFault) -> Said<'static>
 }
 
 fn status_of_merge(fault: MergeFault) -> u8
-    ensures { result ≡ status (merge_ending (refusal_of fault)) }
+    ensures { result ≡ status (merge_ending (merge_refusal_of fault)) }
 {
     match fault {
         MergeFault::Memory => 7,
@@ -159,7 +159,7 @@ fn status_of_merge(fault: MergeFault) -> u8
 }
 
 fn said_of_merge(fault: MergeFault) -> Said<'static>
-    ensures { said_text result ≡ line_of (merge_ending (refusal_of fault)) }
+    ensures { said_text result ≡ line_of (merge_ending (merge_refusal_of fault)) }
 {
     match fault {
         MergeFault::Targets { first, second } => Said::Targets { first, second },

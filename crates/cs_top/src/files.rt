@@ -19,7 +19,7 @@ pub(crate) struct HeldFile<'a> {
 }
 
 /// The size of a file that should be held.
-pub(crate) fn size_of<'a, F: Files>(files: &mut F, name: &'a str) -> Result<u64, RunStop<'a>>
+pub(crate) fn told_size<'a, F: Files>(files: &mut F, name: &'a str) -> Result<u64, RunStop<'a>>
     ensures ok { IfOk result (λ n. HasToldSize (F.held files.old) name.now n) }
     ensures missing { ForSome (F.held files.old) (λ h. IfErr result (λ s. IsMissing s (fin.get h name.now))) }
     ensures absence { IfErr result (λ s. IsAbsence s name.now) }

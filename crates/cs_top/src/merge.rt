@@ -6,10 +6,10 @@ ghost use Rattle.cs_model_merge.specs.Merges.{IsMerge, merge_refusal};
 ghost use Rattle.cs_top.specs.CommandLine.{CausedBy};
 ghost use Rattle.cs_top.specs.Merge.{AreImages, HasMerge, MergeEnds, MergeStops, MergeTold};
 ghost use Rattle.cs_top.specs.Views.{IsMergeCause, ReadsFiles, ended, stop_ending};
-ghost use Rattle.cs_file.specs.ReadImages.{IsFileImage};
+ghost use Rattle.cs_file.specs.WholeImages.{IsFileImage};
 
 use crate::ending::RunStop;
-use crate::files::{HeldFile, size_of};
+use crate::files::{HeldFile, told_size};
 use crate::saving::save;
 use crate::whole::read_whole;
 use cs_base::Files;
@@ -19,7 +19,7 @@ use std::alloc::Global;
 
 /// Writes the file of the merge of two index files. Both are read whole before the new file is made, so it may have the name of
 /// either.
-pub(crate) fn merge<'a, F: Files>(
+pub(crate) fn merge_indexes<'a, F: Files>(
     alloc: Global,
     first: &'a str,
     second: &'a str,
@@ -67,8 +67,8 @@ fn read_both<'a, F: Files>(
     ensures ends { IfErr result (λ s. MergeEnds (stop_ending s) first.now second.now (F.held files.old) (F.held files.new)) }
     ensures reads { ReadsFiles (F.held files.old) (F.held files.new) (F.faults files.old) (F.faults files.new) result }
 {
-    let size = size_of(files, first)?;
-    let second_size = size_of(files, second)?;
+    let size = told_size(files, first)?;
+    let second_size = told_size(files, second)?;
     let a = read_whole(alloc, files, HeldFile { name: first, size })?;
     let second = HeldFile {
         name: second,
@@ -88,7 +88,7 @@ fn merged<'a>(alloc: Global, a: &Image, b: &Image) -> Result<Image, RunStop<'a>>
     ensures writable { IfOk result CanBeWritten }
     ensures cause { IfErr result (IsMergeCause a.now b.now) }
 {
-    laws::files();
+    laws::files_are_taken();
     match cs_merge::merge(alloc, a, b) {
         Ok(image) => Ok(image),
         Err(fault) => Err(RunStop::Merge(fault)),

@@ -7,9 +7,9 @@ ghost use Rattle.cs_top.specs.Views.{ended};
 
 use crate::answering::IndexFile;
 use crate::ending::RunStop;
-use crate::files::{HeldFile, size_of};
+use crate::files::{HeldFile, told_size};
 use crate::opening::open;
-use crate::script::{Came, answer_script};
+use crate::script::{WhatCame, answer_script};
 use crate::showing::Showing;
 use cs_base::{Files, Sink};
 use std::alloc::Global;
@@ -28,8 +28,8 @@ pub(crate) fn replay<'a, F: Files, O: Sink>(
     ensures caused { ReplayCaused (ended result) (F.faults files.old) (F.faults files.new) (O.faults out.old) (O.faults out.new) }
     ensures files { F.held files.new ≡ F.held files.old }
 {
-    let size = size_of(files, index)?;
-    let script_size = size_of(files, script)?;
+    let size = told_size(files, index)?;
+    let script_size = told_size(files, script)?;
     let index = HeldFile { name: index, size };
     let mut engine = open(alloc, files, index)?;
     let mut file = IndexFile::held(index);
@@ -39,9 +39,9 @@ pub(crate) fn replay<'a, F: Files, O: Sink>(
     };
     let showing = Showing::titled(alloc);
     match answer_script(&showing, &mut engine, &mut file, files, script, out) {
-        Ok(Came::Answered) => Ok(()),
-        Ok(Came::Read) => Err(RunStop::Failed),
-        Ok(Came::Changed) => Err(RunStop::Changed),
+        Ok(WhatCame::Answered) => Ok(()),
+        Ok(WhatCame::Read) => Err(RunStop::Failed),
+        Ok(WhatCame::Changed) => Err(RunStop::Changed),
         Err(stop) => Err(RunStop::from(stop)),
     }
 }

@@ -7,7 +7,7 @@ ghost use Rattle.cs_base.specs.outside.Outside.{GrewByPrefix, file_bytes};
 ghost use Rattle.cs_base.specs.declared.content.limits.TheConstants.{MAX_PORT_DIGITS, MAX_PORT, MAX_CONNECTIONS_DIGITS, MAX_CONNECTIONS};
 ghost use Rattle.cs_engine.specs.Keeping.{AreGood};
 ghost use Rattle.cs_file.specs.Indexes.{HasAllBlocks, StandsFor};
-ghost use Rattle.cs_hub.specs.{Ending.{Ends}, HubFollowing.{AreServed}, Speaking.{AreUnbroken}};
+ghost use Rattle.cs_hub.specs.{Ending.{EndsSo}, HubFollowing.{AreServed}, Speaking.{AreUnbroken}};
 ghost use Rattle.cs_model_index.specs.Sections.{file_corpus};
 ghost use Rattle.cs_top.specs.CommandLine.{is_number};
 ghost use Rattle.cs_top.specs.Met.{HasToldSize, Listened, OfBytes, Wrote, listened, wrote};
@@ -15,7 +15,7 @@ ghost use Rattle.cs_top.specs.Serve.{CanServe, HasToldPort, HasStopped, IsListen
 ghost use Rattle.cs_top.specs.Views.{IsSized, OfFile, ReadsFiles, ended, stop_ending};
 
 use crate::ending::RunStop;
-use crate::files::{HeldFile, size_of};
+use crate::files::{HeldFile, told_size};
 use crate::opening::open;
 use crate::said::put_all;
 use crate::words::{conns_of, port_of};
@@ -25,7 +25,7 @@ use cs_hub::ServeEnd;
 use std::alloc::Global;
 
 /// Answers what comes on so many connections over an index file, until all were opened and none is live, or nothing more comes.
-pub(crate) fn serve<'a, F: Files, H: Hub, O: Sink>(
+pub(crate) fn serve_index<'a, F: Files, H: Hub, O: Sink>(
     alloc: Global,
     index: &'a str,
     port: &str,
@@ -67,7 +67,7 @@ fn prepare<'a, F: Files>(
     ensures told { ForSome (F.held files.old) (λ h. IfErr result (λ s. (p : List ℕ) → (n : List ℕ) → (before : ℕ) → (now : ℕ) → (w : Wrote) → (net : Listened) → IsUntouched w net → net.new.faults ≡ net.old.faults → ServeTold (stop_ending s) h index.now p n before now w net)) }
     ensures reads { ReadsFiles (F.held files.old) (F.held files.new) (F.faults files.old) (F.faults files.new) result }
 {
-    let size = size_of(files, index)?;
+    let size = told_size(files, index)?;
     let engine = open(alloc, files, HeldFile { name: index, size })?;
     Ok((engine, size))
 }
@@ -114,7 +114,7 @@ fn serve_file<F: Files, H: Hub>(
     requires orderly { IsOrderly (H.state hub.old) (H.talk hub.old) }
 
     ensures served { OfFile (F.held files.old) file.entry (λ b. StandsFor b engine.old.index → AreGood b engine.old → AreServed (file_corpus b) (H.state hub.new) (H.talk hub.new) (F.faults files.old) (F.faults files.new)) }
-    ensures ends { Ends result conns (H.state hub.old) (H.state hub.new) (H.faults hub.old) (H.faults hub.new) }
+    ensures ends { EndsSo result conns (H.state hub.old) (H.state hub.new) (H.faults hub.old) (H.faults hub.new) }
     ensures memory { result ≡ ServeEnd.Memory → (H.state hub.new ≡ H.state hub.old) × (H.talk hub.new ≡ H.talk hub.old) × (F.faults files.new ≡ F.faults files.old) × (H.send_faults hub.new ≡ H.send_faults hub.old) }
     ensures unbroken { ¬ Rose (H.send_faults hub.old) (H.send_faults hub.new) → ForSome (H.talk hub.new) AreUnbroken }
     ensures sends_later { H.send_faults hub.old ≤ H.send_faults hub.new }
@@ -122,5 +122,5 @@ fn serve_file<F: Files, H: Hub>(
     ensures later { F.faults files.old ≤ F.faults files.new }
 {
     let mut store = FileStore::new(files, file.name, file.size);
-    cs_hub::serve(alloc, engine, &mut store, hub, conns)
+    cs_hub::serve_hub(alloc, engine, &mut store, hub, conns)
 }

@@ -5,12 +5,12 @@ ghost use Rattle.cs_docs.specs.FaultRefusals.{reason_text, refusal_of};
 ghost use Rattle.cs_model.specs.{Collection.{weights}, Corpus.{corpus, refusal}};
 ghost use Rattle.cs_model_sources.specs.{CsvSources.{flat_of_csv}, JsonSources.{flat_of_jsonl}};
 ghost use Rattle.cs_model_sources.specs.SourceRefusals.{csv_words, earlier, flat_refusal, jsonl_words, of_line, source_refusal, why_words};
-ghost use Rattle.cs_top.specs.{Filed.{HasFile, IsFiled}, Import.{IsAccepted, collection_in, refused_words}};
+ghost use Rattle.cs_top.specs.{Filed.{HasFile, IsFiled}, Import.{IsAcceptedAs, collection_in, refused_words}};
 ghost use Rattle.cs_top.specs.Views.{IsFlatCause, IsImportCause, IsOfSource, IsSized, IsSourceCause, IsStopCause, OfFile, ReadsFiles};
 ghost use Rattle.cs_top.specs.Views.{collection_refusal_of, fault_form, import_refusal_of, size_refusal_of, source_refusal_of};
 ghost use Rattle.cs_top.specs.declared.words.Form.TheVariants as forms;
 
-use crate::collection::{CollectionFault, image_of};
+use crate::collection::{CollectionFault, image_of_collection};
 use crate::ending::RunStop;
 use crate::files::{HeldFile, read_all};
 use crate::words::Form;
@@ -80,7 +80,7 @@ impl ImportFault {
 }
 
 /// The image of a source's collection.
-pub(crate) fn read_image<'a, F: Files>(
+pub(crate) fn source_image<'a, F: Files>(
     alloc: Global,
     files: &mut F,
     form: Form,
@@ -89,7 +89,7 @@ pub(crate) fn read_image<'a, F: Files>(
     requires size { IsSized (F.held files.old) source }
 
     ensures ok { OfFile (F.held files.old) source.entry (λ b. IfOk result (IsFiled (corpus (collection_in form b)) (weights (collection_in form b)))) }
-    ensures accepted { OfFile (F.held files.old) source.entry (λ b. OnOk result (IsAccepted form b)) }
+    ensures accepted { OfFile (F.held files.old) source.entry (λ b. OnOk result (IsAcceptedAs form b)) }
     ensures cause { OfFile (F.held files.old) source.entry (λ b. IfErr result (λ s. IsStopCause form b s)) }
     ensures file { IfOk result HasFile }
     ensures kind { IfErr result (IsOfSource form) }
@@ -119,7 +119,7 @@ pub(crate) fn read_collection<'a, F: Files>(
     ensures reads { ReadsFiles (F.held files.old) (F.held files.new) (F.faults files.old) (F.faults files.new) result }
 {
     let bytes = read_source(alloc, files, Form::Collection, collection)?;
-    match image_of(alloc, &bytes) {
+    match image_of_collection(alloc, &bytes) {
         Ok(imaged) => Ok((bytes, imaged.image)),
         Err(fault) => Err(RunStop::Collection(SourceFault::Collection(fault))),
     }
@@ -162,13 +162,13 @@ fn too_large(form: Form) -> SourceFault
 // The image of the collection that these bytes give.
 fn image_in(alloc: Global, form: Form, bytes: Vec<u8>) -> Result<Image, SourceFault>
     ensures ok { IfOk result (IsFiled (corpus (collection_in form bytes.items)) (weights (collection_in form bytes.items))) }
-    ensures accepted { OnOk result (IsAccepted form bytes.items) }
+    ensures accepted { OnOk result (IsAcceptedAs form bytes.items) }
     ensures file { IfOk result HasFile }
     ensures cause { IfErr result (IsSourceCause form bytes.items) }
     ensures form { IfErr result (λ f. fault_form f ≡ form) }
 {
     match form {
-        Form::Collection => match image_of(alloc, &bytes) {
+        Form::Collection => match image_of_collection(alloc, &bytes) {
             Ok(imaged) => Ok(imaged.image),
             Err(fault) => Err(SourceFault::Collection(fault)),
         },
@@ -225,7 +225,7 @@ fn image_of_flat(alloc: Global, flat: &Flat) -> Result<Image, ImportFault>
     if let Some(bad) = flat.bad {
         return Err(first_fault(alloc, flat, bad));
     }
-    match image_of(alloc, flat.tsv.as_slice()) {
+    match image_of_collection(alloc, flat.tsv.as_slice()) {
         Ok(imaged) => Ok(imaged.image),
         Err(fault) => Err(ImportFault::Collection(fault)),
     }

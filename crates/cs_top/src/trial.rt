@@ -7,16 +7,16 @@ ghost use Rattle.cs_model_trial.specs.Summary.{IsSummary};
 ghost use Rattle.cs_query.specs.RequestView.{asked};
 ghost use Rattle.cs_top.specs.{CommandLine.{CausedBy, is_number}, Filed.{HasFile, IsFiled}, Met.{wrote}, Views.{ended}};
 ghost use Rattle.cs_top.specs.Trial.{AreFew, HasAsked, HasSizes, IsSteady, TrialEnds, sizes_of, with_one_reply};
-ghost use Rattle.cs_trial.specs.declared.counts.Counts.{Counts};
+ghost use Rattle.cs_trial.specs.declared.counts.TrialCounts.{TrialCounts};
 
-use crate::collection::{Imaged, image_of, want_of};
+use crate::collection::{Imaged, image_of_collection, want_of};
 use crate::ending::RunStop;
 use crate::opening::open_image;
 use crate::words::trial_of;
 use cs_base::{MemStore, Memory, Plan, Sink};
 use cs_engine::{AskFault, Engine, Note};
 use cs_query::{Reply, Request};
-use cs_trial::{Counts, collection, requests, summary_bytes};
+use cs_trial::{TrialCounts, collection, requests, summary_bytes};
 use std::alloc::Global;
 
 /// Puts the summary of a trial.
@@ -63,17 +63,17 @@ fn imaged(alloc: Global, bytes: &[u8]) -> Result<Imaged, Memory>
     ensures file { IfOk result (λ i. HasFile i.image) }
     ensures sizes { IfOk result (λ i. HasSizes (corpus bytes.now) i.documents i.rows) }
 {
-    match image_of(alloc, bytes) {
+    match image_of_collection(alloc, bytes) {
         Ok(imaged) => Ok(imaged),
         Err(fault) => Err(want_of(fault)),
     }
 }
 
 // What is counted before anything is asked.
-fn sizes(documents: usize, rows: usize, blocks: usize) -> Counts
+fn sizes(documents: usize, rows: usize, blocks: usize) -> TrialCounts
     ensures { result ≡ record { documents = documents; rows = rows; blocks = blocks; replies = 0; hits = 0; same = 0; narrow = 0; extend = 0; fresh = 0 } }
 {
-    Counts {
+    TrialCounts {
         documents: documents as u64,
         rows: rows as u64,
         blocks: blocks as u64,
@@ -92,7 +92,7 @@ fn ask_all(
     engine: &mut Engine,
     store: &mut MemStore,
     requests: &[Request],
-    counts: &mut Counts,
+    counts: &mut TrialCounts,
 ) -> Result<(), Memory>
     requires limits { All (λ r. HoldsLimits (asked r)) requests.now }
     requires stands { StandsFor store.old.bytes engine.old.index }
@@ -115,7 +115,7 @@ fn ask_one(
     engine: &mut Engine,
     store: &mut MemStore,
     request: &Request,
-    counts: &mut Counts,
+    counts: &mut TrialCounts,
 ) -> Result<(), Memory>
     requires limits { HoldsLimits (asked request.now) }
     requires stands { StandsFor store.old.bytes engine.old.index }
@@ -143,7 +143,7 @@ fn answer(
     requires stands { StandsFor store.old.bytes engine.old.index }
     requires fits { HasAllBlocks (Some store.old.bytes) engine.old.index }
 
-    ensures asked { (qs : List Query) → (c : Counts) → HasAsked store.old.bytes qs engine.old c → IfOk result (λ r. HasAsked store.new.bytes (qs ++ request.now.query ∷ []) engine.new (with_one_reply r.1.plan r.0.total_hits c)) }
+    ensures asked { (qs : List Query) → (c : TrialCounts) → HasAsked store.old.bytes qs engine.old c → IfOk result (λ r. HasAsked store.new.bytes (qs ++ request.now.query ∷ []) engine.new (with_one_reply r.1.plan r.0.total_hits c)) }
     ensures steady { IsSteady store.old.bytes store.new.bytes engine.old engine.new }
 {
     match engine.ask(alloc, store, request) {
@@ -154,7 +154,7 @@ fn answer(
 }
 
 // Counts a reply.
-fn count(counts: &mut Counts, plan: Plan, hits: u32)
+fn count(counts: &mut TrialCounts, plan: Plan, hits: u32)
     requires { AreFew (2 ^ 16) counts.old }
 
     ensures { counts.new ≡ with_one_reply plan hits counts.old }

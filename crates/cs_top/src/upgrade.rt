@@ -5,7 +5,7 @@ ghost use Rattle.cs_top.specs.Upgrade.{UpgradeEnds, UpgradeTold};
 ghost use Rattle.cs_top.specs.Views.{ended};
 
 use crate::ending::RunStop;
-use crate::files::{HeldFile, size_of};
+use crate::files::{HeldFile, told_size};
 use crate::saving::save;
 use crate::whole::read_whole;
 use cs_base::Files;
@@ -22,7 +22,7 @@ pub(crate) fn upgrade<'a, F: Files>(
     ensures told { ForSome (F.held files.old) (λ h. UpgradeTold (ended result) h index.now new.now (F.held files.new)) }
     ensures caused { CausedBy (ended result) (F.faults files.old) (F.faults files.new) }
 {
-    let size = size_of(files, index)?;
+    let size = told_size(files, index)?;
     let image = read_whole(alloc, files, HeldFile { name: index, size })?;
     save(alloc, &image, files, new)?;
     Ok(())

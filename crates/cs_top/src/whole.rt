@@ -1,7 +1,7 @@
 //! Index files that are read whole.
 ghost use Rattle.std.specs.Prelude.{◌≡◌, false, IfOk, IfErr, OnOk};
 ghost use Rattle.std.specs.Option.{ForSome};
-ghost use Rattle.cs_file.specs.ReadImages.{IsFileImage};
+ghost use Rattle.cs_file.specs.WholeImages.{IsFileImage};
 ghost use Rattle.cs_file.specs.Writable.{CanBeWritten};
 ghost use Rattle.cs_model_index.specs.FileRules.{IsIndexFile};
 ghost use Rattle.cs_model_index.specs.Sections.{image_of};

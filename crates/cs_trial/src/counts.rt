@@ -10,7 +10,7 @@ use std::alloc::Global;
 
 /// What a trial counts.
 #[derive(Clone, Copy, Debug, PartialEq, Eq)]
-pub struct Counts {
+pub struct TrialCounts {
     /// The documents of its collection.
     pub documents: u64,
     /// The rows of its collection.
@@ -32,7 +32,7 @@ pub struct Counts {
 }
 
 /// The text of a summary: a line for each count.
-pub fn summary_bytes(alloc: Global, counts: &Counts) -> Result<Vec<u8>, Memory>
+pub fn summary_bytes(alloc: Global, counts: &TrialCounts) -> Result<Vec<u8>, Memory>
     ensures { IfOk result (λ bytes. bytes.items ≡ flat_map summary_line (told counts.now)) }
 {
     let mut bytes = Vec::new(alloc);

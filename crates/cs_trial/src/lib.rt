@@ -11,7 +11,7 @@ mod plain;
 mod syllables;
 mod typing;
 
-pub use counts::{Counts, summary_bytes};
+pub use counts::{TrialCounts, summary_bytes};
 pub use lines::collection;
 pub use plain::requests;
 pub use typing::texts;

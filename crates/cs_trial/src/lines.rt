@@ -8,7 +8,7 @@ ghost use Rattle.cs_model_trial.specs.declared.sizes.TheConstants.{WORDS};
 ghost use Rattle.cs_trial.specs.declared.lines.TheConstants.{LINE_BYTES, PLACE_BYTES};
 
 use crate::draws::Draws;
-use crate::syllables::{SYLLABLE_BYTES, WORD_BYTES, with_syllable, with_word};
+use crate::syllables::{SYLLABLE_BYTES, WORD_BYTES, with_syllable, with_word_of};
 use cs_base::Memory;
 use cs_model_trial::{LINES, SYLLABLES, TEXT_WORDS, TITLE_WORDS, WORDS};
 use std::alloc::Global;
@@ -71,10 +71,10 @@ fn with_words(bytes: Vec<u8>, numbers: &mut Draws, count: u32) -> Vec<u8>
     ensures len { vec_len result + 1 ≡ vec_len bytes + PLACE_BYTES * count }
     ensures capacity { vec_capacity result ≡ vec_capacity bytes }
 {
-    let mut words = with_word(bytes, numbers.below(WORDS));
+    let mut words = with_word_of(bytes, numbers.below(WORDS));
     for _ in 1..count {
         words.push_reserved(b' ');
-        words = with_word(words, numbers.below(WORDS));
+        words = with_word_of(words, numbers.below(WORDS));
     }
     words
 }

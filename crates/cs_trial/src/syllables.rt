@@ -44,7 +44,7 @@ fn syllable(n: u32) -> (u8, u8)
 
 /// Bytes with the word of a number behind them: a syllable for each of its digits.
 #[inline]
-pub(crate) fn with_word(mut bytes: Vec<u8>, w: u32) -> Vec<u8>
+pub(crate) fn with_word_of(mut bytes: Vec<u8>, w: u32) -> Vec<u8>
     requires word { w < WORDS }
     requires room { vec_len bytes + WORD_BYTES ≤ vec_capacity bytes }
 

@@ -7,7 +7,7 @@ ghost use Rattle.cs_model_trial.specs.Sessions.{session_at, text_word, texts};
 ghost use Rattle.cs_model_trial.specs.declared.sizes.TheConstants.{TEXT_WORDS, TYPED_LETTERS};
 
 use crate::draws::Draws;
-use crate::syllables::{WORD_BYTES, with_word};
+use crate::syllables::{WORD_BYTES, with_word_of};
 use cs_base::{Memory, Seq, Text};
 use cs_model_trial::{LINES, SESSIONS, TEXT_WORDS, TITLE_WORDS, WORDS};
 use std::alloc::Global;
@@ -71,7 +71,7 @@ fn text_word(alloc: Global, n: u32, doc: u32, place: u32) -> Result<Vec<u8>, Mem
 {
     let mut draws = Draws::behind(n, doc * LINE_DRAWS + TEXT_DRAWS + place);
     let room = Vec::with_capacity(alloc, WORD_BYTES as usize)?;
-    Ok(with_word(room, draws.below(WORDS)))
+    Ok(with_word_of(room, draws.below(WORDS)))
 }
 
 // Types a word behind a text, letter by letter, and adds what then stands there. It gives the text with the whole word.

@@ -5,7 +5,7 @@ ghost use Rattle.cs_vocab.specs.Ranges.{IsWordAt};
 ghost use Rattle.cs_vocab.specs.Gathering.{AreWordSlots, HasTaken, IsGathering, gathered};
 
 use crate::hash::hash_of;
-use crate::same::are_same;
+use crate::same::are_same_bytes;
 use cs_base::{Memory, Row, Word};
 use std::alloc::Global;
 
@@ -186,7 +186,7 @@ fn look(words: &[Word], slots: &[u32], word: &[u8]) -> Result<u32, usize>
         let index = slots[slot];
         match words.get(index as usize) {
             None => return Err(slot),
-            Some(there) if are_same(there.bytes(), word) => return Ok(index),
+            Some(there) if are_same_bytes(there.bytes(), word) => return Ok(index),
             Some(_) => slot = behind(slot, slots.len()),
         }
     }

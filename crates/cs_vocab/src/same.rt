@@ -9,7 +9,7 @@ use crate::hash::{eight_at, four_at};
 /// Words of four to sixteen bytes, as most are, are compared by their first and their last bytes, which may overlap,
 /// as two numbers each.
 #[inline(always)]
-pub(crate) fn are_same(a: &[u8], b: &[u8]) -> bool
+pub(crate) fn are_same_bytes(a: &[u8], b: &[u8]) -> bool
     ensures { result ≡ bytes_eq a.now b.now }
 {
     let len = a.len();

@@ -20,7 +20,7 @@ ghost use Rattle.cs_top.specs.Views.{of_script, stop_ending};
 
 use crate::answering::{IndexFile, respond};
 use crate::lines::{ScriptStop, line_fault};
-use crate::script::Came;
+use crate::script::WhatCame;
 use crate::showing::Showing;
 use cs_base::{Files, Memory, Query, Sink};
 use cs_engine::{AskFault, Engine};
@@ -59,7 +59,7 @@ pub(crate) fn answer_line<F: Files, O: Sink>(
     line: &[u8],
     number: u64,
     out: &mut O,
-) -> Result<Came, ScriptStop>
+) -> Result<WhatCame, ScriptStop>
     requires there { IsThere engine.old.index file.old (F.held files.old) }
 
     ensures ok { (k : Corpus) → AnswersOver engine.old file.old (F.held files.old) k → IfOk result (λ came. Passes (MayAnswer showing.now file.old k) (number, line.now) (O.written out.old) (O.written out.new) came (F.faults files.old) (F.faults files.new)) }
@@ -75,7 +75,7 @@ pub(crate) fn answer_line<F: Files, O: Sink>(
     ensures caused { IfErr result (λ s. CausedBy (stop_ending (of_script s)) (O.faults out.old) (O.faults out.new)) }
 {
     if line.is_empty() {
-        return Ok(Came::Answered);
+        return Ok(WhatCame::Answered);
     }
     if let Some(fault) = line_fault(line, number) {
         return Err(ScriptStop::Unread(fault));
@@ -85,7 +85,7 @@ pub(crate) fn answer_line<F: Files, O: Sink>(
 }
 
 // Puts an answer, and says what came of the line.
-fn put_answer<O: Sink>(out: &mut O, answer: &Answer) -> Result<Came, ScriptStop>
+fn put_answer<O: Sink>(out: &mut O, answer: &Answer) -> Result<WhatCame, ScriptStop>
     ensures ok { OnOk result (Grew (O.written out.old) (line_bytes answer.now) (O.written out.new)) }
     ensures came { IfOk result (λ c. c ≡ came_of_answer answer.now) }
     ensures err { OnErr result (GrewByPrefix (O.written out.old) (line_bytes answer.now) (O.written out.new)) }
@@ -94,11 +94,11 @@ fn put_answer<O: Sink>(out: &mut O, answer: &Answer) -> Result<Came, ScriptStop>
     ensures caused { IfErr result (λ s. CausedBy (stop_ending (of_script s)) (O.faults out.old) (O.faults out.new)) }
 {
     match answer {
-        Answer::Text(bytes) => put(out, bytes, Came::Answered),
-        Answer::Memory => put(out, memory_line(), Came::Answered),
-        Answer::Read => put(out, read_line(), Came::Read),
-        Answer::Changed(Some(bytes)) => put(out, bytes, Came::Changed),
-        Answer::Changed(None) => put(out, memory_line(), Came::Changed),
+        Answer::Text(bytes) => put(out, bytes, WhatCame::Answered),
+        Answer::Memory => put(out, memory_line(), WhatCame::Answered),
+        Answer::Read => put(out, read_line(), WhatCame::Read),
+        Answer::Changed(Some(bytes)) => put(out, bytes, WhatCame::Changed),
+        Answer::Changed(None) => put(out, memory_line(), WhatCame::Changed),
     }
 }
 
@@ -119,7 +119,7 @@ fn read_line() -> &'static [u8]
 }
 
 // Puts the text of a line, of which this came.
-fn put<O: Sink>(out: &mut O, bytes: &[u8], came: Came) -> Result<Came, ScriptStop>
+fn put<O: Sink>(out: &mut O, bytes: &[u8], came: WhatCame) -> Result<WhatCame, ScriptStop>
     ensures ok { OnOk result (Grew (O.written out.old) bytes.now (O.written out.new)) }
     ensures came { IfOk result (λ c. c ≡ came) }
     ensures err { OnErr result (GrewByPrefix (O.written out.old) bytes.now (O.written out.new)) }

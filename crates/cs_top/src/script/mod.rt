@@ -22,7 +22,7 @@ use cs_engine::Engine;
 
 /// What came of the lines of a script so far.
 #[derive(Clone, Copy, Debug, PartialEq, Eq)]
-pub(crate) enum Came {
+pub(crate) enum WhatCame {
     /// Each has its own text or that of want of memory.
     Answered,
     /// In a reply's place one has the text of a failed read.
@@ -31,15 +31,15 @@ pub(crate) enum Came {
     Changed,
 }
 
-impl Came {
+impl WhatCame {
     // What came of these lines and of one more.
-    fn and(self, more: Came) -> Came
+    fn and(self, more: WhatCame) -> WhatCame
         ensures { result ≡ worst self more }
     {
         match (self, more) {
-            (Came::Read, _) | (_, Came::Read) => Came::Read,
-            (Came::Changed, _) | (_, Came::Changed) => Came::Changed,
-            (Came::Answered, Came::Answered) => Came::Answered,
+            (WhatCame::Read, _) | (_, WhatCame::Read) => WhatCame::Read,
+            (WhatCame::Changed, _) | (_, WhatCame::Changed) => WhatCame::Changed,
+            (WhatCame::Answered, WhatCame::Answered) => WhatCame::Answered,
         }
     }
 }
@@ -53,7 +53,7 @@ pub(crate) fn answer_script<F: Files, O: Sink>(
     files: &mut F,
     script: HeldFile<'_>,
     out: &mut O,
-) -> Result<Came, ScriptStop>
+) -> Result<WhatCame, ScriptStop>
     requires size { IsSized (F.held files.old) script }
     requires there { IsThere engine.old.index file.old (F.held files.old) }
 
@@ -71,7 +71,7 @@ pub(crate) fn answer_script<F: Files, O: Sink>(
 {
     let at = first_place(files, script)?;
     let mut place = Place { at, number: 0 };
-    let mut came = Came::Answered;
+    let mut came = WhatCame::Answered;
     while place.at < script.size {
         let (next, met) = answer_next(showing, engine, file, files, script, place, out)?;
         place = next;
@@ -90,7 +90,7 @@ fn answer_next<F: Files, O: Sink>(
     script: HeldFile<'_>,
     place: Place,
     out: &mut O,
-) -> Result<(Place, Came), ScriptStop>
+) -> Result<(Place, WhatCame), ScriptStop>
     requires size { IsSized (F.held files.old) script }
     requires there { IsThere engine.old.index file.old (F.held files.old) }
     requires within { place.at < script.size }

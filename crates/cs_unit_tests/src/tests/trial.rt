@@ -1,7 +1,7 @@
 //! The first trial's first line and its texts, and a summary.
 use crate::tests::rows::same;
 use cs_base::{Memory, Text};
-use cs_trial::{Counts, collection, requests, summary_bytes, texts};
+use cs_trial::{TrialCounts, collection, requests, summary_bytes, texts};
 use std::alloc::Global;
 use std::test::Fail;
 
@@ -12,7 +12,7 @@ const LINE: &[u8] =
 const TYPED: &str =
     "t,ti,tid,tida,tidab,tidabe,tidabe d,tidabe de,tidabe deb,tidabe deba,tidabe debab,tidabe debabi,tidabe,";
 
-const COUNTS: Counts = Counts {
+const COUNTS: TrialCounts = TrialCounts {
     documents: 100,
     rows: 1600,
     blocks: 2,

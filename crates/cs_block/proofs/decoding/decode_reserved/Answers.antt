@@ -7,7 +7,7 @@ use Rattle.cs_block.proofs.RulePasses.{none-from_test}
 use Rattle.cs_block.proofs.decoding.decode_reserved.Goals as goal
 
 pub returns-in-Some-clause-exact : goal.returns-in-Some-clause-exact
-returns-in-Some-clause-exact c = c.in-Some.ensures ∙ judged_cut c.args.weights c.args.head.now c.args.docs c.args.bytes.now _ c.cut-columns.ensures.value
+returns-in-Some-clause-exact c = c.in-Some.ensures ∙ judged_cut c.args.weights c.args.head.now c.args.docs c.args.bytes.now _ c.block_columns-columns.ensures.value
 
 pub returns-in-Some-clause-accepts : goal.returns-in-Some-clause-accepts
 returns-in-Some-clause-accepts c = λ rows block. returns-in-Some-clause-exact c
@@ -15,7 +15,7 @@ returns-in-Some-clause-accepts c = λ rows block. returns-in-Some-clause-exact c
 
 pub returns-else-not-push_rows-clause-exact : goal.returns-else-not-push_rows-clause-exact
 returns-else-not-push_rows-clause-exact c = sym (none-from_test _ (sym c.push_rows.ensures.told ∙ c.if-not-push_rows.false))
-    ∙ judged_cut c.args.weights c.args.head.now c.args.docs c.args.bytes.now _ c.cut-columns.ensures.value
+    ∙ judged_cut c.args.weights c.args.head.now c.args.docs c.args.bytes.now _ c.block_columns-columns.ensures.value
 
 pub returns-else-not-push_rows-clause-ok : goal.returns-else-not-push_rows-clause-ok
 returns-else-not-push_rows-clause-ok c = (
@@ -23,5 +23,5 @@ returns-else-not-push_rows-clause-ok c = (
   accepted c.args.weights c.args.head.now c.args.docs c.args.bytes.now (λ i. omega (arith, c.type_inv.bytes i)) c.requires.shaped
       (sym (returns-else-not-push_rows-clause-exact c)),
   c.push_rows.ensures.posts c.if-not-push_rows.false
-      ∙ ap (λ (x : List Post). c.args.into.now.posts ++ x) (rows_cut c.args.head.now c.args.bytes.now _ c.cut-columns.ensures.value),
+      ∙ ap (λ (x : List Post). c.args.into.now.posts ++ x) (rows_cut c.args.head.now c.args.bytes.now _ c.block_columns-columns.ensures.value),
 )

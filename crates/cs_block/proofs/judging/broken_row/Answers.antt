@@ -18,8 +18,8 @@ loop-i-preserved c =
     let here = c.in-Some.ensures in
     judges_on c.args.weights c.args.head.now c.args.docs _ c.loop-i.i c.loop-i.at here.n c.in-Some.next c.loop-i.last c.loop-i.before _ c.loop-i.bad_word
     c.loop-i.bad_score c.loop-i.bad_order c.keep-bad_word.result c.keep-bad_score.result c.keep-bad_order.result c.is_in_words.result c.is_scored.result
-    c.is_after.result c.row_of-row.result
-    c.loop-i-test.true here.gap here.sum here.below c.row_of-row.ensures c.is_in_words.ensures c.keep-bad_word.ensures c.is_scored.ensures
+    c.is_after.result c.row_at-row.result
+    c.loop-i-test.true here.gap here.sum here.below c.row_at-row.ensures c.is_in_words.ensures c.keep-bad_word.ensures c.is_scored.ensures
     c.keep-bad_score.ensures c.is_after.ensures c.keep-bad_order.ensures c.loop-i.invariant
 
 pub returns : goal.returns

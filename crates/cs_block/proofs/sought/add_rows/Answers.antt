@@ -14,10 +14,10 @@ loop-place-preserved c =
     let places = c.args.places.now in
     let head = c.args.head.now in
     let weights = c.args.weights in
-    let row = c.row_of-row.result in
+    let row = c.row_at-row.result in
     record {
       added = added_on (row_with head (seen_columns c.args.columns.now) c.args.docs.now) c.args.into.now.items c.loop-place.into.items
-          c.push_reserved.new.self.items places k row c.loop-place-test.true c.row_of-row.ensures c.push_reserved.ensures.items inv.added;
+          c.push_reserved.new.self.items places k row c.loop-place-test.true c.row_at-row.ensures c.push_reserved.ensures.items inv.added;
       kept = λ e all.
           let both = and_parts c.loop-place.kept (c.is_in_words.result && c.is_scored.result) e in
           let own = and_parts c.is_in_words.result c.is_scored.result both.1 in

@@ -25,7 +25,7 @@ loop-i-preserved c =
     let t : ℕ → Bool = λ i. is_sought lo hi listed (row_with head (seen_columns c.args.columns.now) docs i) in
     let word_is : ℕ → Bool = λ x. (nat_le lo (head.lo + x) && nat_lt (head.lo + x) hi) && get_or listed (get_or docs l.i 0) false in
     let one = c.from-found.result in
-    let count : one ≡ from_bool (t l.i) = c.from-found.ensures ∙ ap from_bool (c.is_sought.ensures ∙ ap word_is c.half_at.ensures.value) in
+    let count : one ≡ from_bool (t l.i) = c.from-found.ensures ∙ ap from_bool (c.are_sought.ensures ∙ ap word_is c.half_at.ensures.value) in
     let next = found_on t c.args.span.0 l.i l.found one l.places c.requires.span l.auto.i c.loop-i-test.true count
     l.invariant.found l.invariant.few l.invariant.len in
     record { found = next.0; few = next.1; len = next.2 }

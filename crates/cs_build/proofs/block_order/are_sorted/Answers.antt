@@ -4,7 +4,7 @@ use Rattle.std.proofs.lemmas.List.Sorted.{all_adjacent_more}
 use Rattle.std.proofs.lemmas.Map.Keys.{sorted_from_all_adjacent}
 use Rattle.cs_base.specs.content.Orders.{by_place}
 use Rattle.cs_base.specs.declared.content.doc.Post.{Post}
-use Rattle.cs_build.proofs.BlockOrder.{by_post_total, post_less}
+use Rattle.cs_build.proofs.BlockOrder.{by_numbers_total, post_less}
 use Rattle.cs_build.proofs.block_order.are_sorted.Goals as goal
 
 pub loop-i-preserved : goal.loop-i-preserved
@@ -17,4 +17,4 @@ pub returns : goal.returns
 returns c = λ e.
     let posts = c.args.block.now.posts in
     let d : Post = record { doc = 0; word = 0; pos = 0; score = 0 } in
-    sorted_from_all_adjacent by_post_total posts d (λ k l. post_less (get_or posts k d) (get_or posts (k + 1) d) (c.loop-i.invariant k d (omega (arith, l, c.loop-i-test.false, c.len-i-end.ensures.value))))
+    sorted_from_all_adjacent by_numbers_total posts d (λ k l. post_less (get_or posts k d) (get_or posts (k + 1) d) (c.loop-i.invariant k d (omega (arith, l, c.loop-i-test.false, c.len-i-end.ensures.value))))

@@ -37,36 +37,36 @@ filled c = rw (c.deref.ensures.value, c.as_slice-2.ensures) at c.in_ok-blocks.en
 pub runs_of-requires-clause-few : goal.runs_of-requires-clause-few
 runs_of-requires-clause-few c = omega (arith, ap length c.as_slice.ensures, columns_many c.rows.inside.words c.rows.inside.numbers c.rows.inside.form c.rows.invariant, ap length c.rows.view_is, c.requires.few)
 
-pub blocks_of-requires-clause-spans : goal.blocks_of-requires-clause-spans
-blocks_of-requires-clause-spans c =
-    let r = (goal.at.blocks_of-requires-clause-spans c).In_ok-runs in
+pub run_blocks-requires-clause-spans : goal.run_blocks-requires-clause-spans
+run_blocks-requires-clause-spans c =
+    let r = (goal.at.run_blocks-requires-clause-spans c).In_ok-runs in
     subst (λ rs. AreSpans 0 rs c.len-2.result) (sym c.deref.ensures.value) (spans_kept c.rows.inside.words (rows r) (posts r) c.args.target c.in_ok-runs.runs.items c.rows.invariant.words (same_posts r) (parted r) c.len-2.result c.len-2.ensures.value)
 
-pub blocks_of-requires-clause-few : goal.blocks_of-requires-clause-few
-blocks_of-requires-clause-few c =
-    let r = (goal.at.blocks_of-requires-clause-few c).In_ok-runs in
+pub run_blocks-requires-clause-few : goal.run_blocks-requires-clause-few
+run_blocks-requires-clause-few c =
+    let r = (goal.at.run_blocks-requires-clause-few c).In_ok-runs in
     omega (arith, few_kept c.rows.inside.words (rows r) (posts r) c.args.target c.in_ok-runs.runs.items c.rows.invariant.words (same_posts r) (parted r), ap length c.deref.ensures.value, c.len-2.ensures.value)
 
-pub blocks_of-requires-clause-counted : goal.blocks_of-requires-clause-counted
-blocks_of-requires-clause-counted c =
-    let r = (goal.at.blocks_of-requires-clause-counted c).In_ok-runs in
+pub run_blocks-requires-clause-counted : goal.run_blocks-requires-clause-counted
+run_blocks-requires-clause-counted c =
+    let r = (goal.at.run_blocks-requires-clause-counted c).In_ok-runs in
     rw (c.deref.ensures.value, c.as_slice-2.ensures) (counted_kept c.rows.inside.words (rows r) (posts r) c.args.target c.in_ok-runs.runs.items c.rows.invariant.words (same_posts r) (parted r))
 
-pub heads_of-requires-clause-each : goal.heads_of-requires-clause-each
-heads_of-requires-clause-each c =
-    let r = (goal.at.heads_of-requires-clause-each c).In_ok-runs in
-    let b = filled (goal.at.heads_of-requires-clause-each c).In_ok-blocks in
+pub run_heads-requires-clause-each : goal.run_heads-requires-clause-each
+run_heads-requires-clause-each c =
+    let r = (goal.at.run_heads-requires-clause-each c).In_ok-runs in
+    let b = filled (goal.at.run_heads-requires-clause-each c).In_ok-blocks in
     ap length c.deref-2.ensures.value ∙ as_many c.rows.inside.words (rows r) (posts r) c.args.target c.in_ok-runs.runs.items c.rows.invariant.words (same_posts r) (parted r) c.in_ok-blocks.blocks.items b ∙ sym (ap length c.deref-3.ensures.value)
 
-pub heads_of-requires-clause-inside : goal.heads_of-requires-clause-inside
-heads_of-requires-clause-inside c =
-    let r = (goal.at.heads_of-requires-clause-inside c).In_ok-runs in
+pub run_heads-requires-clause-inside : goal.run_heads-requires-clause-inside
+run_heads-requires-clause-inside c =
+    let r = (goal.at.run_heads-requires-clause-inside c).In_ok-runs in
     subst (AllByRecursion (λ run. run.lo < length c.rows.inside.words)) (sym c.deref-2.ensures.value) (inside_kept c.rows.inside.words (rows r) (posts r) c.args.target c.in_ok-runs.runs.items c.rows.invariant.words (same_posts r) (parted r))
 
-pub heads_of-requires-clause-few : goal.heads_of-requires-clause-few
-heads_of-requires-clause-few c =
-    let r = (goal.at.heads_of-requires-clause-few c).In_ok-runs in
-    let b = filled (goal.at.heads_of-requires-clause-few c).In_ok-blocks in
+pub run_heads-requires-clause-few : goal.run_heads-requires-clause-few
+run_heads-requires-clause-few c =
+    let r = (goal.at.run_heads-requires-clause-few c).In_ok-runs in
+    let b = filled (goal.at.run_heads-requires-clause-few c).In_ok-blocks in
     let few : length (rows r) ≤ MAX_ROWS = omega (arith, ap length c.rows.view_is, c.requires.few) in
     subst (AllByRecursion (λ b. length b.posts ≤ MAX_ROWS)) (sym c.deref-3.ensures.value) (rows_kept c.rows.inside.words (rows r) (posts r) c.args.target c.in_ok-runs.runs.items c.rows.invariant.words (same_posts r) (parted r) c.in_ok-blocks.blocks.items b MAX_ROWS few)
 

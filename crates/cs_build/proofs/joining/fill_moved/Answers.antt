@@ -1,7 +1,7 @@
 use Rattle.std.proofs.Common.{◌+◌, ◌<◌, ◌^◌, List, length, drop, map, subst, sym, ap}
 use Rattle.std.specs.List.{All}
 use Rattle.cs_base.specs.declared.content.doc.Post.{Post}
-use Rattle.cs_build.specs.Joining.{held_posts, moved}
+use Rattle.cs_build.specs.Joining.{held_posts, moved_post}
 use Rattle.cs_build.specs.WordRuns.{AreTaken, CanTake}
 use Rattle.cs_build.proofs.FillLemmas.{can_behind, can_front, none_taken, taken-append}
 use Rattle.cs_build.proofs.JoiningLemmas.{all_behind, all_front, held_end, held_next, moved_next}
@@ -27,8 +27,8 @@ loop-block-preserved c =
     let places = c.args.places.now in
     let e = moved_next c.args.shift.now c.args.docs c.args.from.now c.loop-block.block-index c.block-item.result c.loop-block-test.true c.block-item.is in
     let h = held_next c.args.from.now c.loop-block.block-index c.block-item.result c.loop-block-test.true c.block-item.is in
-    let here : List Post = map (moved c.args.shift.now c.args.docs) c.block-item.result.posts in
-    let rest : List Post = map (moved c.args.shift.now c.args.docs) (held_posts (drop (c.loop-block.block-index + 1) c.args.from.now)) in
+    let here : List Post = map (moved_post c.args.shift.now c.args.docs) c.block-item.result.posts in
+    let rest : List Post = map (moved_post c.args.shift.now c.args.docs) (held_posts (drop (c.loop-block.block-index + 1) c.args.from.now)) in
     let can = subst (CanTake places c.loop-block.blocks) e c.loop-block.invariant.can in
     record {
       can = can_behind places c.loop-block.blocks c.fill_block.new.blocks here rest can c.fill_block.ensures;
@@ -42,5 +42,5 @@ pub returns : goal.returns
 returns c =
     let places = c.args.places.now in
     c.loop-block.invariant.goes c.loop-block.blocks
-    (subst (λ ps. AreTaken places ps c.loop-block.blocks c.loop-block.blocks) (ap (map (moved c.args.shift.now c.args.docs)) (sym (held_end c.args.from.now c.loop-block.block-index c.loop-block-test.false)))
+    (subst (λ ps. AreTaken places ps c.loop-block.blocks c.loop-block.blocks) (ap (map (moved_post c.args.shift.now c.args.docs)) (sym (held_end c.args.from.now c.loop-block.block-index c.loop-block-test.false)))
     (none_taken places c.loop-block.blocks))

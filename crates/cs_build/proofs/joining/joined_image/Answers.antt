@@ -91,24 +91,24 @@ blocks_of_both-requires-clause-counted c =
     let r = (goal.at.blocks_of_both-requires-clause-counted c).In_ok-runs in
     subst (AllByRecursion (CountsRows (posts r))) (sym c.deref-2.ensures.value) (counted_kept c.args.words (rows r) (posts r) c.a.inside.target c.in_ok-runs.runs.items c.requires.words (same_posts r) (parted r))
 
-pub heads_of-requires-clause-each : goal.heads_of-requires-clause-each
-heads_of-requires-clause-each c =
-    let r = (goal.at.heads_of-requires-clause-each c).In_ok-runs in
-    let b = filled (goal.at.heads_of-requires-clause-each c).In_ok-blocks-2 in
+pub run_heads-requires-clause-each : goal.run_heads-requires-clause-each
+run_heads-requires-clause-each c =
+    let r = (goal.at.run_heads-requires-clause-each c).In_ok-runs in
+    let b = filled (goal.at.run_heads-requires-clause-each c).In_ok-blocks-2 in
     ap length c.deref-3.ensures.value
     ∙ as_many c.args.words (listed r) (numbered c.args.words (listed r)) c.a.inside.target c.in_ok-runs.runs.items (words r) refl (parted_in_order r) c.in_ok-blocks-2.blocks.items b
     ∙ sym (ap length c.deref-4.ensures.value)
 
-pub heads_of-requires-clause-inside : goal.heads_of-requires-clause-inside
-heads_of-requires-clause-inside c =
-    let r = (goal.at.heads_of-requires-clause-inside c).In_ok-runs in
+pub run_heads-requires-clause-inside : goal.run_heads-requires-clause-inside
+run_heads-requires-clause-inside c =
+    let r = (goal.at.run_heads-requires-clause-inside c).In_ok-runs in
     subst (AllByRecursion (λ run. run.lo < length c.args.words)) (sym c.deref-3.ensures.value)
     (inside_kept c.args.words (listed r) (numbered c.args.words (listed r)) c.a.inside.target c.in_ok-runs.runs.items (words r) refl (parted_in_order r))
 
-pub heads_of-requires-clause-few : goal.heads_of-requires-clause-few
-heads_of-requires-clause-few c =
-    let r = (goal.at.heads_of-requires-clause-few c).In_ok-runs in
-    let b = filled (goal.at.heads_of-requires-clause-few c).In_ok-blocks-2 in
+pub run_heads-requires-clause-few : goal.run_heads-requires-clause-few
+run_heads-requires-clause-few c =
+    let r = (goal.at.run_heads-requires-clause-few c).In_ok-runs in
+    let b = filled (goal.at.run_heads-requires-clause-few c).In_ok-blocks-2 in
     subst (AllByRecursion (λ b. length b.posts ≤ MAX_ROWS)) (sym c.deref-4.ensures.value)
     (rows_kept c.args.words (listed r) (numbered c.args.words (listed r)) c.a.inside.target c.in_ok-runs.runs.items (words r) refl (parted_in_order r) c.in_ok-blocks-2.blocks.items b MAX_ROWS (few_rows r))
 

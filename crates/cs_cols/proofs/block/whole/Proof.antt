@@ -24,7 +24,7 @@ use Rattle.cs_cols.specs.Block.{number_column, byte_column, rooms}
 use Rattle.cs_cols.specs.Rooms.{LieAt}
 use Rattle.cs_cols.specs.contracts.rooms.NumberRoom as NumberRoom
 use Rattle.cs_cols.specs.contracts.rooms.ByteRoom as ByteRoom
-use Rattle.cs_cols.specs.contracts.block.Block as Block
+use Rattle.cs_cols.specs.contracts.block.WaitingBlock as WaitingBlock
 use Rattle.cs_cols.proofs.Walks.{plainly, none, one, none_had, one_had, dropped, begins, by_walk}
 use Rattle.cs_cols.proofs.Carved.{Words, words-laws}
 use Rattle.cs_cols.specs.contracts.block.whole as F
@@ -33,7 +33,7 @@ use Rattle.cs_cols.proofs.block.whole.Statement as stated
 use Rattle.cs_cols.proofs.block.whole.Code as code
 
 abbrev stayed : Stays F.ended.signature.params F.ended.kept
-stayed = (dropped NumberRoom.the_row, (dropped NumberRoom.the_row, (dropped NumberRoom.the_row, (dropped ByteRoom.the_row, (dropped Block.the_row, tt)))))
+stayed = (dropped NumberRoom.the_row, (dropped NumberRoom.the_row, (dropped NumberRoom.the_row, (dropped ByteRoom.the_row, (dropped WaitingBlock.the_row, tt)))))
 
 module _ {M : Type 1} {𝓤 : Ura M} (𝓛 : Logic 𝓤) (at_mem : Memory → SProp 𝓤) (run : Routine → Fun 𝓤) where
   walks : (C : Calls 𝓤 𝓛.H) (Λ : Loops 𝓤 𝓛.H) → Walks 𝓛 F.ended stayed (WpFn 𝓤 𝓛.H C Λ code.function) (F.clauses 𝓛 at_mem run)
@@ -68,7 +68,7 @@ module _ {M : Type 1} {𝓤 : Ura M} (𝓛 : Logic 𝓤) (at_mem : Memory → SP
       regoal ! (λ (us : List Val). prop (WpFn 𝓤 𝓛.H C Λ code.function ((none ∷ []) ++ ((none ∷ []) ++ ((none ∷ []) ++ (us ++ (vss.1.1.1.1.0 ++ []))))) Post)) is₃ refl $
       regoal ! (λ (us : List Val). prop (WpFn 𝓤 𝓛.H C Λ code.function ((none ∷ []) ++ ((none ∷ []) ++ ((none ∷ []) ++ ((none ∷ []) ++ (us ++ []))))) Post)) is₄ refl $
       enter ! C Λ code.function (none ∷ none ∷ none ∷ none ∷ one u ∷ []) Post $
-      alloc_all ! (λ l. pass_all ! refl ((tt, tt), ((tt, tt), ((tt, tt), ((tt, tt), ((subst (Typed (Block.the_row).mir) is₄ typed).0, tt))))) $
+      alloc_all ! (λ l. pass_all ! refl ((tt, tt), ((tt, tt), ((tt, tt), ((tt, tt), ((subst (Typed (WaitingBlock.the_row).mir) is₄ typed).0, tt))))) $
       sets ! (of_opd ! (get_in ! (fld ! refl (stop !)) (sub ! 0 refl (whole !)))) refl good $ sets ! (of_opd ! (get ! refl)) refl good $
       returns ! (look_at ! 0 refl) $ free_all ! refl $
       suffices ! _ (ends_at 𝓛 F.ended stayed held z u v.vec (tt, (tt, (tt, (tt, (tt, tt))))) (tt, (tt, (tt, (tt, (tt, tt)))))) $ says ! (ap (λ t. t.0) is, ap (λ t. t.1) is) $
@@ -80,5 +80,5 @@ whole_spec 𝓤 𝓛 𝓜 𝓡 wired =
     let 𝓣 : Tables 𝓤 𝓛.H = tables_of 𝓤 𝓛.H 𝓜 (tables 𝓤 𝓛.H 𝓜 𝓡 𝓡.env) in
     let number = Goes-blank 𝓛 0 (plain (λ _. NumberRoom.the_row)) yes (λ κs x f. tt) in
     by_walk 𝓛 F.ended stayed (F.clauses 𝓛 𝓜.mem 𝓡.returns)
-    (number, (number, (number, (Goes-blank 𝓛 0 (plain (λ _. ByteRoom.the_row)) yes (λ κs x f. tt), (Goes-blank 𝓛 0 (plain (λ _. Block.the_row)) yes (λ κs x f. tt), tt)))))
+    (number, (number, (number, (Goes-blank 𝓛 0 (plain (λ _. ByteRoom.the_row)) yes (λ κs x f. tt), (Goes-blank 𝓛 0 (plain (λ _. WaitingBlock.the_row)) yes (λ κs x f. tt), tt)))))
     #self code.function 𝓣 (code.unfolded 𝓤 𝓛.H 𝓜 𝓡 wired) (walks 𝓛 𝓜.mem 𝓡.returns 𝓣.C 𝓣.Λ)

@@ -28,7 +28,7 @@ loop-i-preserved c =
     let below = c.requires.known i 0 c.loop-i-test.true in
     let inside : slice_index docs i < length best = omega (arith, below, c.loop-i.invariant.len) in
     let entry : c.entry_of.result ≡ cond (t (slice_index docs i) (slice_index words i)) (slice_index scores i) 0 = c.entry_of.ensures
-    ∙ ap (λ b. cond b (slice_index scores i) 0) c.is_chosen-counts.ensures in
+    ∙ ap (λ b. cond b (slice_index scores i) 0) c.are_chosen-counts.ensures in
     let is : c.max.result ≡ max (slice_index best (slice_index docs i))
     (cond (t (slice_index docs i) (slice_index words i)) (slice_index scores i) 0) = omega (arith, c.max.ensures, entry) in
     record {

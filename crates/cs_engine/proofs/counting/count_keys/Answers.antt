@@ -19,7 +19,7 @@ pub loop-key-preserved : goal.loop-key-preserved
 loop-key-preserved c = record {
   counted = λ w few none.
       key_counted w c.args.keys.now c.loop-key.key-index c.loop-key.counts c.see.new.self c.loop-key-test.true few
-      (λ row doc word. c.see.ensures.counted row (c.doc_of.ensures ∙ doc) (c.word_of.ensures ∙ word)) (c.loop-key.invariant.counted w few none);
+      (λ row doc word. c.see.ensures.counted row (c.doc_of_key.ensures ∙ doc) (c.word_of.ensures ∙ word)) (c.loop-key.invariant.counted w few none);
   low = c.see.ensures.low ∙ c.loop-key.invariant.low;
   high = c.see.ensures.high ∙ c.loop-key.invariant.high;
 }

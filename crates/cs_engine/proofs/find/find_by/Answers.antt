@@ -1,9 +1,10 @@
-use Rattle.std.proofs.Common.{◌≡◌, ◌∙◌, ap, refl, subst, sym, true≢false, arith}
+use Rattle.std.proofs.Common.{◌≡◌, ◌∙◌, ap, refl, sym, true≢false}
 use Rattle.cs_base.specs.declared.index.plan.Plan.TheVariants.{Same, Narrow, Extend, Fresh}
 use Rattle.cs_model_kept.specs.KeptList.{is_same}
 use Rattle.cs_model_kept.specs.KeptListLaws.{before_last}
 use Rattle.cs_engine.specs.Keeping.{entry_with}
 use Rattle.cs_engine.specs.Steps.{last_is_positive}
+use Rattle.cs_engine.specs.Stocked.{corpus_in}
 use Rattle.cs_engine.proofs.LentLemmas.{extend_lent, narrow_lent, narrow_typed, same_lent}
 use Rattle.cs_engine.proofs.PlansLemmas.{first_base, first_in, found_by_entry, is_used}
 use Rattle.cs_engine.proofs.find.find_by.Goals as goal
@@ -18,7 +19,7 @@ view-view-requires g c =
 pub found_in-requires : goal.found_in-requires
 found_in-requires g c = record {
   own = record {
-    index = c.requires.over.opened.index;
+    index = c.requires.over.opened.source;
     parts = c.requires.over.parts;
     fits = (same_lent c.requires.over.query c.requires.planned _ _ c.view-view.ensures.base c.view-view.ensures.rows c.in-Same.is).0;
   };
@@ -27,7 +28,8 @@ found_in-requires g c = record {
 pub returns-in_ok-hits-in-Same-clause-told : goal.returns-in_ok-hits-in-Same-clause-told
 returns-in_ok-hits-in-Same-clause-told g c b is stands held good = record {
   table = c.in_ok-hits-in-Same.ensures.told b stands
-      ((same_lent c.requires.over.query c.requires.planned _ _ c.view-view.ensures.base c.view-view.ensures.rows c.in-Same.is).1 b good);
+      ((same_lent c.requires.over.query c.requires.planned _ _ c.view-view.ensures.base c.view-view.ensures.rows c.in-Same.is).1
+      (corpus_in ((g.I.Source.view c.args.over.index.now).stock b)) good);
   own = tt;
   large = λ none other. absurd (true≢false (sym (ap is_same c.in-Same.is) ∙ other));
   range = tt;
@@ -48,7 +50,7 @@ narrowed-requires-clause-within g c =
 pub found_with-requires : goal.found_with-requires
 found_with-requires g c = record {
   own = record {
-    index = c.requires.over.opened.index;
+    index = c.requires.over.opened.source;
     parts = c.requires.over.parts;
     fits = (narrow_lent c.requires.over.query c.requires.planned _ _ c.view-view-in-Narrow.ensures.base c.view-view-in-Narrow.ensures.rows
         c.in-Narrow.cut c.in-Narrow.is c.in_ok-entry-in-Narrow.entry
@@ -61,7 +63,8 @@ returns-in_ok-found-in-Narrow-clause-told g c b is stands held good =
     c.in_ok-found-in-Narrow.ensures.told b stands
     ((narrow_lent c.requires.over.query c.requires.planned _ _ c.view-view-in-Narrow.ensures.base c.view-view-in-Narrow.ensures.rows
     c.in-Narrow.cut c.in-Narrow.is c.in_ok-entry-in-Narrow.entry
-    c.in_ok-entry-in-Narrow.ensures.base c.in_ok-entry-in-Narrow.ensures.rows).1 b good) c.args.plan
+    c.in_ok-entry-in-Narrow.ensures.base c.in_ok-entry-in-Narrow.ensures.rows).1 (corpus_in ((g.I.Source.view c.args.over.index.now).stock b)) good)
+    c.args.plan
 
 -- ---- a part more
 pub view-view-requires-in-Extend : goal.view-view-requires-in-Extend
@@ -70,8 +73,8 @@ view-view-requires-in-Extend g c =
       held = is_used c.requires.over.query c.requires.planned (λ f. let no : Extend ≡ Fresh = sym c.in-Extend.is ∙ f in cc);
     }
 
-pub hits_before-requires : goal.hits_before-requires
-hits_before-requires g c =
+pub hits_before_last-requires : goal.hits_before_last-requires
+hits_before_last-requires g c =
     let lent = extend_lent c.requires.over.query c.requires.planned _ _ c.view-view-in-Extend.ensures.base c.view-view-in-Extend.ensures.rows c.in-Extend.is in
     record {
       some = lent.0;
@@ -90,11 +93,11 @@ find_last-requires g c =
 
 pub returns-in_ok-found-in-Extend-clause-told : goal.returns-in_ok-found-in-Extend-clause-told
 returns-in_ok-found-in-Extend-clause-told g c b is stands held good =
-    let i = c.args.over.index.now in
+    let v = (g.I.Source.view c.args.over.index.now) in
     let e = entry_with c.view-view-in-Extend.result.base.now c.view-view-in-Extend.result.rows.now.posts in
     let lent = extend_lent c.requires.over.query c.requires.planned _ _ c.view-view-in-Extend.ensures.base c.view-view-in-Extend.ensures.rows c.in-Extend.is in
-    let found = found_by_entry i (before_last c.args.over.query.now) e (last_is_positive (before_last c.args.over.query.now)) refl
-    c.in_ok-hits-in-Extend.hits c.in_ok-hits-in-Extend.ensures b stands c.requires.over.opened.index (lent.2 b good) in
+    let found = found_by_entry v (before_last c.args.over.query.now) e (last_is_positive (before_last c.args.over.query.now)) refl
+    c.in_ok-hits-in-Extend.hits c.in_ok-hits-in-Extend.ensures b stands c.requires.over.opened.source (lent.2 (corpus_in (v.stock b)) good) in
     c.in_ok-found-in-Extend.ensures.told b is stands found.base c.args.plan
 
 -- ---- all parts

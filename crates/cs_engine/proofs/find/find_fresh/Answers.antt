@@ -5,6 +5,7 @@ use Rattle.cs_base.specs.declared.content.scores.TheConstants.{MAX_ROW_SCORE}
 use Rattle.cs_model_kept.specs.KeptListLaws.{before_last}
 use Rattle.cs_engine.specs.Asking.{division}
 use Rattle.cs_engine.specs.Finding.{AsksAlone}
+use Rattle.cs_engine.specs.Sources.{seen}
 use Rattle.cs_engine.specs.Steps.{IsBaseOf}
 use Rattle.cs_engine.proofs.PlansLemmas.{all_met, first_parts, nothing_over, nothing_own}
 use Rattle.cs_engine.proofs.WalkLemmas.{within_both, within_more}
@@ -15,10 +16,10 @@ use Rattle.cs_engine.proofs.find.find_fresh.Goals as goal
 pub found_with-requires : goal.found_with-requires
 found_with-requires g c = record {
   own = record {
-    index = c.requires.over.opened.index;
+    index = c.requires.over.opened.source;
     parts = c.requires.over.parts;
     fits = nothing_own c.args.over.query.now c.as_slice-parts.result.now c.as_slice-parts.ensures
-        (grind (arith, common_steps)) c.nothing_kept-entry.result c.nothing_kept-entry.ensures c.args.over.index.now;
+        (grind (arith, common_steps)) c.first_entry-entry.result c.first_entry-entry.ensures (seen (g.I.Source.view c.args.over.index.now));
   };
 }
 
@@ -27,30 +28,36 @@ returns-then-is_empty-clause-told g c b is stands held =
     let q = c.args.over.query.now in
     c.in_ok-found.ensures.told b stands
     (nothing_over q c.as_slice-parts.result.now c.as_slice-parts.ensures
-    (grind (arith, common_steps)) c.nothing_kept-entry.result c.nothing_kept-entry.ensures b c.args.over.index.now stands c.requires.over.opened.index)
+    (grind (arith, common_steps)) c.first_entry-entry.result c.first_entry-entry.ensures b (g.I.Source.view c.args.over.index.now) stands
+    c.requires.over.opened.source)
 
 -- ---- words alone
 pub find_range-requires-clause-asks : goal.find_range-requires-clause-asks
 find_range-requires-clause-asks g c =
-    subst (λ (ps : List Part). AsksAlone c.args.over.index.now ps c.in-Some.words.0 c.in-Some.words.1) c.as_slice-parts.ensures c.in-Some.ensures
+    subst (λ (ps : List Part). AsksAlone (g.I.Source.view c.args.over.index.now) ps c.in-Some.words.0 c.in-Some.words.1) c.as_slice-parts.ensures
+    c.in-Some.ensures
 
 pub returns-in-Some-clause-reads : goal.returns-in-Some-clause-reads
 returns-in-Some-clause-reads g c =
-    within_more c.in_ok-found-2.ensures.reads (alone_met c.args.over.index.now c.args.over.query.now c.as_slice-parts.ensures c.in-Some.ensures)
+    within_more c.in_ok-found-2.ensures.reads (alone_met (g.I.Source.view c.args.over.index.now) c.args.over.query.now c.as_slice-parts.ensures
+    c.in-Some.ensures)
 
 pub returns-in_err-found-2-clause-reads : goal.returns-in_err-found-2-clause-reads
 returns-in_err-found-2-clause-reads g c =
-    within_more c.in_err-found-2.ensures.reads (alone_met c.args.over.index.now c.args.over.query.now c.as_slice-parts.ensures c.in-Some.ensures)
+    within_more c.in_err-found-2.ensures.reads (alone_met (g.I.Source.view c.args.over.index.now) c.args.over.query.now c.as_slice-parts.ensures
+    c.in-Some.ensures)
 
 -- ---- the parts before the last, and that one
 pub returns-in_err-hits-clause-reads : goal.returns-in_err-hits-clause-reads
 returns-in_err-hits-clause-reads g c =
-    let met = all_met (division c.args.over.index.now) c.args.over.query.now c.as_slice-parts.result.now c.as_slice-parts.ensures (grind (arith, common_steps)) in
+    let met = all_met (division (g.I.Source.view c.args.over.index.now).index) c.args.over.query.now c.as_slice-parts.result.now
+    c.as_slice-parts.ensures (grind (arith, common_steps)) in
     within_more c.hits_of_parts.ensures.reads (omega (arith, met))
 
 pub returns-in_err-found-3-clause-reads : goal.returns-in_err-found-3-clause-reads
 returns-in_err-found-3-clause-reads g c =
-    let met = all_met (division c.args.over.index.now) c.args.over.query.now c.as_slice-parts.result.now c.as_slice-parts.ensures (grind (arith, common_steps)) in
+    let met = all_met (division (g.I.Source.view c.args.over.index.now).index) c.args.over.query.now c.as_slice-parts.result.now
+    c.as_slice-parts.ensures (grind (arith, common_steps)) in
     within_both c.hits_of_parts.ensures.reads c.in_err-found-3.ensures.reads (omega (arith, met))
 
 pub find_last-requires-clause-base : goal.find_last-requires-clause-base
@@ -58,7 +65,7 @@ find_last-requires-clause-base g c =
     let parts = c.as_slice-parts.result.now in
     let many : length (take (length parts - 1) parts) ≡ length parts - 1 = (let l = length-take (length parts - 1) parts in omega (arith, l)) in
     let are = many ∙ ap (λ (xs : List Part). length xs - 1) c.as_slice-parts.ensures in
-    subst (λ n. IsBaseOf c.args.over.index.now.docs (MAX_ROW_SCORE * n) c.in_ok-hits.hits) are c.in_ok-hits.ensures.within
+    subst (λ n. IsBaseOf (g.I.Source.view c.args.over.index.now).docs (MAX_ROW_SCORE * n) c.in_ok-hits.hits) are c.in_ok-hits.ensures.within
 
 pub returns-clause-told : goal.returns-clause-told
 returns-clause-told g c b is stands held =
@@ -69,5 +76,6 @@ returns-clause-told g c b is stands held =
 
 pub returns-clause-reads : goal.returns-clause-reads
 returns-clause-reads g c =
-    let met = all_met (division c.args.over.index.now) c.args.over.query.now c.as_slice-parts.result.now c.as_slice-parts.ensures (grind (arith, common_steps)) in
+    let met = all_met (division (g.I.Source.view c.args.over.index.now).index) c.args.over.query.now c.as_slice-parts.result.now
+    c.as_slice-parts.ensures (grind (arith, common_steps)) in
     within_both c.hits_of_parts.ensures.reads c.in_ok-found-3.ensures.reads (omega (arith, met))

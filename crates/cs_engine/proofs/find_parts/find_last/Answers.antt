@@ -3,9 +3,10 @@ use Rattle.cs_base.specs.declared.content.limits.TheConstants.{MAX_PARTS}
 use Rattle.cs_base.specs.declared.content.query.Query.{out-Query}
 use Rattle.cs_base.specs.declared.content.scores.TheConstants.{MAX_ROW_SCORE}
 use Rattle.cs_engine.specs.Asking.{division}
+use Rattle.cs_engine.specs.Sources.{seen}
 use Rattle.cs_engine.proofs.PartSteps.{base_weaker}
 use Rattle.cs_engine.proofs.PlansLemmas.{ends_last, is_last, last_met, more_by_words, more_fits, more_told}
-use Rattle.cs_engine.proofs.WalkLemmas.{within_both, within_more}
+use Rattle.cs_engine.proofs.WalkLemmas.{within_more}
 use Rattle.cs_engine.proofs.find_parts.find_last.Goals as goal
 
 -- ---- a part that asks for some words
@@ -25,7 +26,8 @@ find_words-requires-clause-asks g c =
 
 pub returns-in_err-found-clause-reads : goal.returns-in_err-found-clause-reads
 returns-in_err-found-clause-reads g c =
-    let met = last_met (division c.args.over.index.now) (is_last {q = c.args.over.query.now} c.requires.some c.as_slice-parts.ensures c.index-parts-last.is) in
+    let met = last_met (division (g.I.Source.view c.args.over.index.now).index)
+    (is_last {q = c.args.over.query.now} c.requires.some c.as_slice-parts.ensures c.index-parts-last.is) in
     let few = c.in-Some.ensures.words.few in
     within_more c.in_err-found.ensures.reads (omega (arith, met, few))
 
@@ -35,26 +37,30 @@ returns-in-Some-clause-told g c b is stands over =
     let x = c.index-parts-last.result in
     let last = is_last {q = q} c.requires.some c.as_slice-parts.ensures c.index-parts-last.is in
     c.in_ok-found.ensures.told b is stands
-    (more_by_words q b c.args.over.index.now stands c.requires.over.opened.index x c.args.hits c.in-Some.words.0 c.in-Some.words.1 last over c.in-Some.ensures.positive
+    (more_by_words q b (g.I.Source.view c.args.over.index.now) stands c.requires.over.opened.source x c.args.hits c.in-Some.words.0 c.in-Some.words.1
+    last over c.in-Some.ensures.positive
     c.in-Some.ensures.words)
 
 pub returns-in-Some-clause-reads : goal.returns-in-Some-clause-reads
 returns-in-Some-clause-reads g c =
-    let met = last_met (division c.args.over.index.now) (is_last {q = c.args.over.query.now} c.requires.some c.as_slice-parts.ensures c.index-parts-last.is) in
+    let met = last_met (division (g.I.Source.view c.args.over.index.now).index)
+    (is_last {q = c.args.over.query.now} c.requires.some c.as_slice-parts.ensures c.index-parts-last.is) in
     let few = c.in-Some.ensures.words.few in
     within_more c.in_ok-found.ensures.reads (omega (arith, met, few))
 
 -- ---- another part
-pub extended-requires-clause-base : goal.extended-requires-clause-base
-extended-requires-clause-base g c =
+pub extended_entry-requires-clause-base : goal.extended_entry-requires-clause-base
+extended_entry-requires-clause-base g c =
     let n = length (out-Query c.args.over.query.now).parts in
     let few = c.requires.over.parts in
-    base_weaker c.args.over.index.now.docs (MAX_ROW_SCORE * (n - 1)) (MAX_ROW_SCORE * MAX_PARTS) c.args.hits (omega (arith, few)) c.requires.base
+    base_weaker (g.I.Source.view c.args.over.index.now).docs (MAX_ROW_SCORE * (n - 1)) (MAX_ROW_SCORE * MAX_PARTS) c.args.hits (omega (arith, few))
+    c.requires.base
 
 pub returns-in_err-entry-clause-reads : goal.returns-in_err-entry-clause-reads
 returns-in_err-entry-clause-reads g c =
-    let met = last_met (division c.args.over.index.now) (is_last {q = c.args.over.query.now} c.requires.some c.as_slice-parts.ensures c.index-parts-last.is) in
-    within_more c.extended.ensures.reads (omega (arith, met))
+    let met = last_met (division (g.I.Source.view c.args.over.index.now).index)
+    (is_last {q = c.args.over.query.now} c.requires.some c.as_slice-parts.ensures c.index-parts-last.is) in
+    within_more c.extended_entry.ensures.reads (omega (arith, met))
 
 pub found_with-requires : goal.found_with-requires
 found_with-requires g c =
@@ -63,27 +69,30 @@ found_with-requires g c =
     let last = is_last {q = q} c.requires.some c.as_slice-parts.ensures c.index-parts-last.is in
     record {
       own = record {
-        index = c.requires.over.opened.index;
+        index = c.requires.over.opened.source;
         parts = c.requires.over.parts;
-        fits = more_fits q c.args.over.index.now x c.in_ok-entry.entry last (c.in_ok-entry.ensures.within (length (out-Query q).parts - 1) c.requires.base);
+        fits = more_fits q (seen (g.I.Source.view c.args.over.index.now)) x c.in_ok-entry.entry last
+            (c.in_ok-entry.ensures.within (length (out-Query q).parts - 1) c.requires.base);
       };
     }
 
 pub returns-in_err-found-2-clause-reads : goal.returns-in_err-found-2-clause-reads
 returns-in_err-found-2-clause-reads g c =
-    let met = last_met (division c.args.over.index.now) (is_last {q = c.args.over.query.now} c.requires.some c.as_slice-parts.ensures c.index-parts-last.is) in
-    within_more c.extended.ensures.reads (omega (arith, met))
+    let met = last_met (division (g.I.Source.view c.args.over.index.now).index)
+    (is_last {q = c.args.over.query.now} c.requires.some c.as_slice-parts.ensures c.index-parts-last.is) in
+    within_more c.extended_entry.ensures.reads (omega (arith, met))
 
 pub returns-clause-told : goal.returns-clause-told
 returns-clause-told g c b is stands over =
     let q = c.args.over.query.now in
-    let i = c.args.over.index.now in
+    let v = (g.I.Source.view c.args.over.index.now) in
     let x = c.index-parts-last.result in
     let last = is_last {q = q} c.requires.some c.as_slice-parts.ensures c.index-parts-last.is in
     c.in_ok-found-2.ensures.told b stands
-    (more_told q b i stands c.requires.over.opened.index x c.args.hits c.in_ok-entry.entry last over (c.in_ok-entry.ensures.told b is stands))
+    (more_told q b v stands c.requires.over.opened.source x c.args.hits c.in_ok-entry.entry last over (c.in_ok-entry.ensures.told b is stands))
 
 pub returns-clause-reads : goal.returns-clause-reads
 returns-clause-reads g c =
-    let met = last_met (division c.args.over.index.now) (is_last {q = c.args.over.query.now} c.requires.some c.as_slice-parts.ensures c.index-parts-last.is) in
-    within_more c.extended.ensures.reads (omega (arith, met))
+    let met = last_met (division (g.I.Source.view c.args.over.index.now).index)
+    (is_last {q = c.args.over.query.now} c.requires.some c.as_slice-parts.ensures c.index-parts-last.is) in
+    within_more c.extended_entry.ensures.reads (omega (arith, met))

@@ -1,20 +1,22 @@
 use Rattle.std.proofs.Common.{false, subst}
 use Rattle.cs_engine.specs.HeldRanges.{FitsHolding, FitsRange, IsHeldOver, IsHoldingOver}
+use Rattle.cs_engine.specs.Sources.{seen}
 use Rattle.cs_engine.proofs.RangeLemmas.{goes_by, others_go, was_held}
 use Rattle.cs_engine.proofs.find_range.counted_words.Goals as goal
 
 -- ---- what was held
 pub returns-in-Some-Counted-clause-told : goal.returns-in-Some-Counted-clause-told
-returns-in-Some-Counted-clause-told g c b is stands over = subst (IsHoldingOver b c.args.words.0 c.args.words.1) c.in-Some-Counted.field-0-is
-    (was_held c.in-Some-Counted.ensures.some.0 (IsHeldOver b) over)
+returns-in-Some-Counted-clause-told g c b is stands over = subst (IsHoldingOver ((g.I.Source.view c.args.index.now).stock b) c.args.words.0
+    c.args.words.1) c.in-Some-Counted.field-0-is
+    (was_held c.in-Some-Counted.ensures.some.0 (IsHeldOver ((g.I.Source.view c.args.index.now).stock b)) over)
 
 pub returns-in-Some-Counted-clause-base : goal.returns-in-Some-Counted-clause-base
-returns-in-Some-Counted-clause-base g c = (subst (FitsHolding c.args.index.now) c.in-Some-Counted.field-0-is
-    (was_held c.in-Some-Counted.ensures.some.0 (FitsRange c.args.index.now) c.requires.held)).0
+returns-in-Some-Counted-clause-base g c = (subst (FitsHolding (seen (g.I.Source.view c.args.index.now))) c.in-Some-Counted.field-0-is
+    (was_held c.in-Some-Counted.ensures.some.0 (FitsRange (seen (g.I.Source.view c.args.index.now))) c.requires.held)).0
 
 pub returns-in-Some-Counted-clause-words : goal.returns-in-Some-Counted-clause-words
-returns-in-Some-Counted-clause-words g c = (subst (FitsHolding c.args.index.now) c.in-Some-Counted.field-0-is
-    (was_held c.in-Some-Counted.ensures.some.0 (FitsRange c.args.index.now) c.requires.held)).1
+returns-in-Some-Counted-clause-words g c = (subst (FitsHolding (seen (g.I.Source.view c.args.index.now))) c.in-Some-Counted.field-0-is
+    (was_held c.in-Some-Counted.ensures.some.0 (FitsRange (seen (g.I.Source.view c.args.index.now))) c.requires.held)).1
 
 pub returns-in-Some-Counted-clause-held : goal.returns-in-Some-Counted-clause-held
 returns-in-Some-Counted-clause-held g c = others_go c.in-Some-Counted.ensures.some.0

@@ -13,17 +13,20 @@ pub returns-in_err-found-clause-reads : goal.returns-in_err-found-clause-reads
 returns-in_err-found-clause-reads g c =
     let none = c.nothing_gathered-none in
     let met = (none.ensures.gathered (g.S.Store.bytes c.args.store.now) c.deref.result.now).met in
-    let many = met_count c.args.index.now.heads c.args.words.0 c.args.words.1 none.result.first none.result.last met in
+    let many = met_count (g.I.Source.view c.args.index.now).index.heads ((g.I.Source.view c.args.index.now).before c.args.words.0)
+    ((g.I.Source.view c.args.index.now).before c.args.words.1) none.result.first none.result.last met in
     within_more c.found_behind.ensures.reads (omega (arith, many, none.ensures.none))
 
 pub returns-clause-reads : goal.returns-clause-reads
 returns-clause-reads g c =
     let none = c.nothing_gathered-none in
     let met = (none.ensures.gathered (g.S.Store.bytes c.args.store.now) c.deref.result.now).met in
-    let many = met_count c.args.index.now.heads c.args.words.0 c.args.words.1 none.result.first none.result.last met in
+    let many = met_count (g.I.Source.view c.args.index.now).index.heads ((g.I.Source.view c.args.index.now).before c.args.words.0)
+    ((g.I.Source.view c.args.index.now).before c.args.words.1) none.result.first none.result.last met in
     within_more c.found_behind.ensures.reads (omega (arith, many, none.ensures.none))
 
 pub returns-clause-told : goal.returns-clause-told
 returns-clause-told g c b is stands =
     subst (λ rows. HasFound base.All rows c.in_ok-found.found.0 c.in_ok-found.found.1)
-    (sym (whole_range b c.args.index.now stands c.requires.opened.index c.args.words.0 c.args.words.1)) (c.in_ok-found.ensures.told b is stands)
+    (sym (whole_range b (g.I.Source.view c.args.index.now) stands c.requires.opened.source c.args.words.0 c.args.words.1))
+    (c.in_ok-found.ensures.told b is stands)

@@ -1,7 +1,6 @@
-use Rattle.std.proofs.Common.{◌<◌, ◌≤◌, refl, sym, subst, arith}
-use Rattle.cs_engine.specs.HeldRanges.{range_bytes}
+use Rattle.std.proofs.Common.{◌≤◌, refl, subst, arith}
 use Rattle.cs_engine.specs.declared.held.TheConstants.{MAX_HELD_BYTES}
-use Rattle.cs_engine.proofs.RangeLemmas.{all_within, bytes_more}
+use Rattle.cs_engine.proofs.RangeLemmas.{bytes_more}
 use Rattle.cs_engine.proofs.held.many_within.Goals as goal
 
 pub returns-then-bytes-gt-MAX_HELD_BYTES : goal.returns-then-bytes-gt-MAX_HELD_BYTES

@@ -3,7 +3,7 @@ use Rattle.cs_base.specs.declared.content.doc.Scored.{Scored}
 use Rattle.cs_meet.specs.Filters.{keep_docs}
 use Rattle.cs_base.specs.content.Orders.{AreDocs}
 use Rattle.cs_rank.specs.DocScores.{IsBase}
-use Rattle.cs_engine.specs.Stocked.{docs_in}
+use Rattle.cs_engine.specs.Stocked.{base_docs}
 use Rattle.cs_engine.proofs.FoundLemmas.{docs_rise, all_kept}
 use Rattle.cs_engine.proofs.hits.kept_in.Goals as goal
 
@@ -14,4 +14,4 @@ keep_docs-requires-clause-docs_sorted c =
 
 pub returns-in-All-clause-ok : goal.returns-in-All-clause-ok
 returns-in-All-clause-ok c = all_kept c.args.docs c.args.rows.posts c.requires.known
-    ∙ ap (λ b. keep_docs c.args.rows.posts (docs_in c.args.docs b)) (sym c.in-All.is)
+    ∙ ap (λ b. keep_docs c.args.rows.posts (base_docs c.args.docs b)) (sym c.in-All.is)

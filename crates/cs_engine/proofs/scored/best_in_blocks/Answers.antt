@@ -1,11 +1,10 @@
-use Rattle.std.proofs.Common.{◌≡◌, ◌<◌, ◌∙◌, sym, subst, arith}
-use Rattle.std.specs.Prelude.{All}
-use Rattle.cs_file.specs.Indexes.{block_posts}
-use Rattle.cs_model_index.specs.Sections.{image_of}
+use Rattle.std.proofs.Common.{◌≡◌, ◌<◌, ◌∙◌, ◌++◌, [], get_or, sym, subst, arith}
+use Rattle.std.specs.Prelude.{All, filter}
 use Rattle.cs_tables.specs.WordCounts.{is_chosen}
 use Rattle.cs_engine.specs.Loose.{HasBestScores}
 use Rattle.cs_engine.specs.IndexReading.{run_of}
 use Rattle.cs_engine.proofs.BehindLemmas.{best_found, best_more}
+use Rattle.cs_engine.proofs.PackingLemmas.{held_known}
 use Rattle.cs_engine.proofs.WalkLemmas.{block_fails, fails_behind, hands_on, walk_ends, walk_goes_on, walk_stops}
 use Rattle.cs_engine.proofs.scored.best_in_blocks.Goals as goal
 
@@ -29,11 +28,20 @@ loop-k-preserved g c =
     record {
       walk = walk_goes_on inv.walk read.store read.reads;
       scored = λ b is stands.
-          best_more b c.args.index.now stands c.requires.opened.index c.args.words.0 c.args.words.1 c.args.listed.now c.blocks-first.result.0 c.loop-k.k
+          best_more b (g.I.Source.view c.args.index.now) stands c.requires.opened.source c.args.words.0 c.args.words.1 c.args.listed.now
+          c.blocks-first.result.0 c.loop-k.k
           c.loop-k.best.items c.raise_rows.new.best.items c.loop-k.auto.k (omega (arith, c.blocks-first.ensures.within, c.loop-k-test.true))
-          (c.raise_rows.ensures.best (block_posts b c.loop-k.k) (read.stood b (inv.walk.store.bytes ∙ is) stands)) (inv.scored b is stands);
+          (c.raise_rows.ensures.best (get_or ((g.I.Source.view c.args.index.now).blocks b) c.loop-k.k [])
+          (read.stood b (inv.walk.store.bytes ∙ is) stands)) (inv.scored b is stands);
       len = c.raise_rows.ensures.len ∙ inv.len;
     }
+
+pub raise_held-requires-clause-known : goal.raise_held-requires-clause-known
+raise_held-requires-clause-known g c =
+    held_known (g.I.Source.view c.args.index.now) c.requires.opened.source c.held.result.now c.held.ensures c.loop-k.invariant.len
+
+pub raise_held-requires-clause-long : goal.raise_held-requires-clause-long
+raise_held-requires-clause-long g c = c.requires.listed ∙ sym c.loop-k.invariant.len
 
 pub returns-clause-told : goal.returns-clause-told
 returns-clause-told g c b is stands =
@@ -45,8 +53,12 @@ returns-clause-told g c b is stands =
     let listed = c.args.listed.now in
     let up = met.ordered in
     let done : c.loop-k.k ≡ last = omega (arith, c.loop-k-test.false, c.loop-k.auto.k-end, up) in
-    best_found b c.args.index.now stands c.requires.opened.index lo hi listed first last c.loop-k.best.items met
-    (subst (λ k. HasBestScores (run_of (image_of b).blocks first k (is_chosen lo hi listed)) c.loop-k.best.items) done (c.loop-k.invariant.scored b is stands))
+    let v = g.I.Source.view c.args.index.now in
+    let run = run_of (v.blocks b) first last (is_chosen lo hi listed) in
+    best_found b v stands c.requires.opened.source lo hi listed first last c.raise_held.new.best.items met
+    (subst (λ h. HasBestScores (run ++ filter (is_chosen lo hi listed) h) c.raise_held.new.best.items) c.held.ensures
+    (c.raise_held.ensures.best run
+    (subst (λ k. HasBestScores (run_of (v.blocks b) first k (is_chosen lo hi listed)) c.loop-k.best.items) done (c.loop-k.invariant.scored b is stands))))
 
 pub returns-clause-reads : goal.returns-clause-reads
 returns-clause-reads g c = walk_ends c.loop-k.invariant.walk c.blocks-first.ensures c.loop-k.auto.k-end

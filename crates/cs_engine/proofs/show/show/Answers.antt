@@ -1,52 +1,46 @@
 use Rattle.std.proofs.Common.{◌<◌, ap, map, length, refl, sym, subst, ◌∙◌, arith}
 use Rattle.std.specs.Prelude.{All}
-use Rattle.std.specs.Str.{IsUtf8}
 use Rattle.cs_base.specs.declared.content.doc.Scored.{Scored}
-use Rattle.cs_file.specs.Indexes.{IndexView}
 use Rattle.cs_model.specs.Requests.{hit_shown}
 use Rattle.cs_query.specs.RequestView.{asked}
 use Rattle.cs_tables.specs.declared.tables.Completion.{Completion}
-use Rattle.cs_engine.specs.IndexReading.{stock_of}
 use Rattle.cs_engine.specs.Stocked.{corpus_in, shown_at}
-use Rattle.cs_engine.proofs.AnsweringLemmas.{hits_few, index_texts, reply_told, shown_in, words_as_shown}
+use Rattle.cs_engine.proofs.AnsweringLemmas.{hits_few, reply_told, shown_in, words_as_shown}
 use Rattle.cs_engine.proofs.show.show.Goals as goal
 
 pub shown_words-requires-clause-texts : goal.shown_words-requires-clause-texts
-shown_words-requires-clause-texts g c = subst (All IsUtf8) (sym (ap (λ (x : IndexView). x.words) c.index.view_is))
-    (index_texts c.args.over.index.now c.requires.opened.index)
+shown_words-requires-clause-texts g c = c.requires.opened.source.texts
 
 pub shown_words-requires-clause-known : goal.shown_words-requires-clause-known
-shown_words-requires-clause-known g c =
-    let i = c.args.over.index.now in
-    subst (λ ws. All (λ (w : Completion). w.word < length ws) c.as_slice.result.now) (sym (ap (λ (x : IndexView). x.words) c.index.view_is))
-    (subst (All (λ (w : Completion). w.word < length i.words)) (sym c.as_slice.ensures) c.requires.table)
+shown_words-requires-clause-known g c = subst (All (λ (w : Completion). w.word < length (g.I.Source.view c.args.over.index.now).words))
+    (sym c.as_slice.ensures) c.requires.table
 
 pub shown_hits-requires-clause-known : goal.shown_hits-requires-clause-known
 shown_hits-requires-clause-known g c =
-    let i = c.args.over.index.now in
-    let docs = ap (λ (x : IndexView). x.docs) c.index.view_is in
+    let v = (g.I.Source.view c.args.over.index.now) in
+    let docs = c.docs.ensures in
     let r = c.args.over.request.now in
-    let shown = shown_in i c.requires.opened.index _ c.args.hits.now _ _ r.offset r.hits docs refl c.requires.base c.in_ok-first.first
+    let shown = shown_in v c.requires.opened.source _ c.args.hits.now _ _ r.offset r.hits docs refl c.requires.base c.in_ok-first.first
     c.in_ok-first.ensures.first in
-    subst (All (λ (h : Scored). h.doc < i.docs)) (sym c.as_slice-2.ensures) shown
+    subst (All (λ (h : Scored). h.doc < v.docs)) (sym c.as_slice-2.ensures) shown
 
 pub overflow_cast-result : goal.overflow_cast-result
 overflow_cast-result g c =
-    let docs = ap (λ (x : IndexView). x.docs) c.index.view_is in
-    let few = hits_few c.args.over.index.now c.requires.opened.index _ c.args.hits.now _ _ docs refl c.requires.base in
+    let docs = c.docs.ensures in
+    let few = hits_few (g.I.Source.view c.args.over.index.now) c.requires.opened.source _ c.args.hits.now _ _ docs refl c.requires.base in
     omega (arith, c.in_ok-first.ensures.total, few)
 
 pub returns-clause-told : goal.returns-clause-told
 returns-clause-told g c b is stands over found =
-    let i = c.args.over.index.now in
+    let v = (g.I.Source.view c.args.over.index.now) in
     let r = asked c.args.over.request.now in
-    let words = ap (λ (x : IndexView). x.words) c.index.view_is in
-    let docs = ap (λ (x : IndexView). x.docs) c.index.view_is in
+    let docs = c.docs.ensures in
     let posts = found.posts in
-    let shown = words_as_shown b i stands c.requires.opened.index posts found.within _ words r.completions c.args.table.now.first found.first c.in_ok-shown.shown
+    let shown = words_as_shown b v stands c.requires.opened.source posts found.within _ refl r.completions c.args.table.now.first found.first
+    c.in_ok-shown.shown
     (c.in_ok-shown.ensures ∙ ap (map (shown_at _)) c.as_slice.ensures) in
     let hits = c.in_ok-shown_first.ensures.told b (c.shown_facets.ensures.store.bytes ∙ is) stands
-    ∙ ap (map (hit_shown (corpus_in (stock_of b)))) (c.as_slice-2.ensures ∙ c.in_ok-first.ensures.first) in
-    reply_told b i stands c.requires.opened.index r c.args.hits.now posts found.found found.within c.in_ok-shown.shown c.in_ok-facets.facets
+    ∙ ap (map (hit_shown (corpus_in (v.stock b)))) (c.as_slice-2.ensures ∙ c.in_ok-first.ensures.first) in
+    reply_told b v stands c.requires.opened.source r c.args.hits.now posts found.found found.within c.in_ok-shown.shown c.in_ok-facets.facets
     c.in_ok-shown_first.shown_first c.args.table.now.total c.in_ok-first.total _
     shown (c.in_ok-facets.ensures.told b is stands over) hits found.total c.in_ok-first.ensures.total _ docs refl

@@ -1,11 +1,8 @@
-use Rattle.std.proofs.Common.{◌∙◌, ◌++◌, List, map, ap, refl, subst, sym, arith}
-use Rattle.cs_file.specs.Indexes.{HasAllBlocks, IndexView}
+use Rattle.std.proofs.Common.{◌∙◌, ◌++◌, List, map, ap, refl, sym, arith}
 use Rattle.cs_model.specs.Replies.{FacetShown}
-use Rattle.cs_engine.specs.Counting.{AreListed}
-use Rattle.cs_engine.specs.IndexReading.{stock_of}
 use Rattle.cs_engine.specs.Stocked.{facet_at}
 use Rattle.cs_engine.proofs.AnsweringLemmas.{shown_more}
-use Rattle.cs_engine.proofs.WalkLemmas.{list_begins, list_goes_on, list_stops}
+use Rattle.cs_engine.proofs.WalkLemmas.{list_begins, list_goes_on}
 use Rattle.cs_engine.proofs.show.shown_facets.Goals as goal
 
 pub loop-name-init : goal.loop-name-init
@@ -14,7 +11,7 @@ loop-name-init g c = record {
   held = c.requires.held;
   good = λ b is stands held. held;
   told = λ b is stands held.
-      let f = facet_at (stock_of b) c.args.base.now c.args.over.request.now.completions in
+      let f = facet_at ((g.I.Source.view c.args.over.index.now).stock b) c.args.base.now c.args.over.request.now.completions in
       ap (λ (s : List FacetShown). s ++ map f c.as_slice-name-items.result.now) (sym c.new-shown.ensures);
 }
 
@@ -27,7 +24,7 @@ loop-name-preserved g c =
       held = c.in_ok-facet.ensures.held;
       good = λ b is stands held. c.in_ok-facet.ensures.good b (inv.walk.store.bytes ∙ is) stands (inv.good b is stands held);
       told = λ b is stands held.
-          let f = facet_at (stock_of b) c.args.base.now c.args.over.request.now.completions in
+          let f = facet_at ((g.I.Source.view c.args.over.index.now).stock b) c.args.base.now c.args.over.request.now.completions in
           shown_more f _ c.loop-name.shown c.push.new.self items c.loop-name.name-index c.name-item.result c.in_ok-facet.facet c.loop-name-test.true
           (c.in_ok-facet.ensures.told b (inv.walk.store.bytes ∙ is) stands (inv.good b is stands held) ∙ ap f c.name-item.is)
           c.in_ok-push.ensures.ok (inv.told b is stands held);

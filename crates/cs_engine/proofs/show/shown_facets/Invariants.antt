@@ -5,17 +5,18 @@ use Rattle.cs_model_kept.specs.Due.{met_of_facets, met_prefix}
 use Rattle.cs_query.specs.RequestView.{asked}
 use Rattle.cs_engine.specs.Asking.{division}
 use Rattle.cs_engine.specs.HeldRanges.{AreHeldOver, FitsRange}
-use Rattle.cs_engine.specs.IndexReading.{WhereStood, stock_of}
+use Rattle.cs_engine.specs.IndexReading.{WhereStood}
+use Rattle.cs_engine.specs.Sources.{seen}
 use Rattle.cs_engine.specs.Stocked.{facet_at}
 use Rattle.cs_engine.proofs.WalkLemmas.{ListWalk}
 use Rattle.cs_engine.proofs.show.shown_facets.Given as goal
 
 abbrev pub invariant-loop-name : goal.invariant-loop-name
-invariant-loop-name g l = let i = l.fn.over.index.now in let v = division i in record {
+invariant-loop-name g l = let i = g.I.Source.view l.fn.over.index.now in let v = division i.index in record {
   walk : ListWalk g.S.Store.bytes g.S.Store.lent g.S.Store.faults g.S.Store.reads
-      i (λ n. met_prefix v (named n [])) l.name-items (met_of_facets v (asked l.fn.over.request.now).facets) l.fn.store l.store l.name-index;
-  held : All (FitsRange i) l.held;
-  good : WhereStood (g.S.Store.bytes l.fn.store) i (λ b. AreHeldOver b l.fn.held → AreHeldOver b l.held);
-  told : WhereStood (g.S.Store.bytes l.fn.store) i (λ b. AreHeldOver b l.fn.held
-      → (let f = facet_at (stock_of b) l.base l.fn.over.request.now.completions in map f l.name-items ≡ l.shown ++ map f (drop l.name-index l.name-items)));
+      i.index (λ n. met_prefix v (named n [])) l.name-items (met_of_facets v (asked l.fn.over.request.now).facets) l.fn.store l.store l.name-index;
+  held : All (FitsRange (seen i)) l.held;
+  good : WhereStood (g.S.Store.bytes l.fn.store) i.index (λ b. AreHeldOver (i.stock b) l.fn.held → AreHeldOver (i.stock b) l.held);
+  told : WhereStood (g.S.Store.bytes l.fn.store) i.index (λ b. AreHeldOver (i.stock b) l.fn.held
+      → (let f = facet_at (i.stock b) l.base l.fn.over.request.now.completions in map f l.name-items ≡ l.shown ++ map f (drop l.name-index l.name-items)));
 }

@@ -8,7 +8,7 @@ use Rattle.cs_base.specs.declared.content.query.Part.{out-Part}
 use Rattle.cs_base.specs.declared.content.scores.TheConstants.{MAX_ROW_SCORE}
 use Rattle.cs_model_kept.specs.Entries.{EntryOf}
 use Rattle.cs_rank.specs.DocScores.{IsBase}
-use Rattle.cs_engine.specs.IndexReading.{stock_of}
+use Rattle.cs_engine.specs.Sources.{seen}
 use Rattle.cs_engine.specs.Steps.{IsBaseOf, posts_hits}
 use Rattle.cs_engine.proofs.BehindLemmas.{behind_words, most_more}
 use Rattle.cs_engine.proofs.EvaluationLemmas.{hits_end, hits_go_on}
@@ -47,37 +47,39 @@ loop-part-preserved-in-Some g c =
     record {
       walk = list_goes_on inv.walk c.loop-part-test.true c.part-item.is next.ensures.store (within_more next.ensures.reads c.in-Some.ensures.words.few);
       within = next.ensures.within n inv.within;
-      told = λ b is stands. hits_go_on (stock_of b) c.args.parts.now n c.part-item.result c.loop-part-test.true c.part-item.is hits
+      told = λ b is stands. hits_go_on ((g.I.Source.view c.args.index.now).stock b) c.args.parts.now n c.part-item.result c.loop-part-test.true
+          c.part-item.is hits
           (base.Listed next.scored) (inv.told b is stands)
-          (behind_words b c.args.index.now stands c.requires.opened.index c.part-item.result hits words.0 words.1 next.scored
+          (behind_words b (g.I.Source.view c.args.index.now) stands c.requires.opened.source c.part-item.result hits words.0 words.1 next.scored
           c.in-Some.ensures.positive c.in-Some.ensures.words (next.ensures.told b (inv.walk.store.bytes ∙ is) stands));
     }
 
 -- ---- another part
-pub extended-requires-clause-base : goal.extended-requires-clause-base
-extended-requires-clause-base g c = of_most _ _ _ _ c.requires.few c.loop-part-test.true c.loop-part.invariant.within
+pub extended_entry-requires-clause-base : goal.extended_entry-requires-clause-base
+extended_entry-requires-clause-base g c = of_most _ _ _ _ c.requires.few c.loop-part-test.true c.loop-part.invariant.within
 
 pub returns-in_err-entry-clause-reads : goal.returns-in_err-entry-clause-reads
-returns-in_err-entry-clause-reads g c = list_stops c.loop-part.invariant.walk c.loop-part-test.true c.part-item.is c.extended.ensures.reads
+returns-in_err-entry-clause-reads g c = list_stops c.loop-part.invariant.walk c.loop-part-test.true c.part-item.is c.extended_entry.ensures.reads
 
 pub returns-in_err-hits-clause-reads : goal.returns-in_err-hits-clause-reads
-returns-in_err-hits-clause-reads g c = list_stops c.loop-part.invariant.walk c.loop-part-test.true c.part-item.is c.extended.ensures.reads
+returns-in_err-hits-clause-reads g c = list_stops c.loop-part.invariant.walk c.loop-part-test.true c.part-item.is c.extended_entry.ensures.reads
 
-pub hits_of-requires-clause-base : goal.hits_of-requires-clause-base
-hits_of-requires-clause-base g c =
+pub posts_hits-requires-clause-base : goal.posts_hits-requires-clause-base
+posts_hits-requires-clause-base g c =
     let fits = c.in_ok-entry.ensures.within MAX_PARTS (of_most _ _ _ _ c.requires.few c.loop-part-test.true c.loop-part.invariant.within) in
     let same = ap (λ (e : EntryOf Post). e.base) c.entry.view_is in
-    subst IsBase (sym same) (base_in c.args.index.now.docs _ c.in_ok-entry.entry.base (most_more (not (out-Part c.part-item.result).excluded)) fits.base)
+    subst IsBase (sym same) (base_in (g.I.Source.view c.args.index.now).docs _ c.in_ok-entry.entry.base
+    (most_more (not (out-Part c.part-item.result).excluded)) fits.base)
 
-pub hits_of-requires-clause-sorted : goal.hits_of-requires-clause-sorted
-hits_of-requires-clause-sorted g c =
+pub posts_hits-requires-clause-sorted : goal.posts_hits-requires-clause-sorted
+posts_hits-requires-clause-sorted g c =
     let fits = c.in_ok-entry.ensures.within c.loop-part.part-index c.loop-part.invariant.within in
     let same = ap (λ (e : EntryOf Post). e.rows) c.entry.view_is in
     subst AreSorted (sym same) fits.rows.sorted
 
 pub loop-part-preserved : goal.loop-part-preserved
 loop-part-preserved g c =
-    let i = c.args.index.now in
+    let i = seen (g.I.Source.view c.args.index.now) in
     let n = c.loop-part.part-index in
     let inv = c.loop-part.invariant in
     let x = c.part-item.result in
@@ -88,20 +90,21 @@ loop-part-preserved g c =
     record {
       walk = list_goes_on inv.walk c.loop-part-test.true c.part-item.is c.in_ok-entry.ensures.store c.in_ok-entry.ensures.reads;
       within = subst (IsBaseOf i.docs (MAX_ROW_SCORE * (n + 1))) (sym are) (hits_in i positive (n + 1) e (c.in_ok-entry.ensures.within n inv.within));
-      told = λ b is stands. hits_go_on (stock_of b) c.args.parts.now n x c.loop-part-test.true c.part-item.is c.loop-part.hits
+      told = λ b is stands. hits_go_on ((g.I.Source.view c.args.index.now).stock b) c.args.parts.now n x c.loop-part-test.true c.part-item.is c.loop-part.hits
           c.in_ok-hits.hits (inv.told b is stands) (record {
             e = e;
             step = c.in_ok-entry.ensures.told b (inv.walk.store.bytes ∙ is) stands;
-            are = are ∙ ap (λ x. posts_hits (not x) e.base e.rows) (sym (is_excluded (stock_of b) x));
+            are = are ∙ ap (λ x. posts_hits (not x) e.base e.rows) (sym (is_excluded ((g.I.Source.view c.args.index.now).stock b) x));
           });
     }
 
 -- ---- all parts
 pub returns-clause-told : goal.returns-clause-told
-returns-clause-told g c b is stands q are = hits_end (stock_of b) c.args.parts.now q c.loop-part.part-index c.loop-part.hits are
+returns-clause-told g c b is stands q are = hits_end ((g.I.Source.view c.args.index.now).stock b) c.args.parts.now q c.loop-part.part-index
+    c.loop-part.hits are
     (omega (arith, c.loop-part-test.false)) (c.loop-part.invariant.told b is stands)
 
 pub returns-clause-within : goal.returns-clause-within
 returns-clause-within g c =
     let whole : c.loop-part.part-index ≡ length c.args.parts.now = omega (arith, c.loop-part-test.false, c.loop-part.auto.part-index-end) in
-    subst (λ m. IsBaseOf c.args.index.now.docs (MAX_ROW_SCORE * m) c.loop-part.hits) whole c.loop-part.invariant.within
+    subst (λ m. IsBaseOf (g.I.Source.view c.args.index.now).docs (MAX_ROW_SCORE * m) c.loop-part.hits) whole c.loop-part.invariant.within

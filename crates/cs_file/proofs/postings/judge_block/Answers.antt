@@ -3,15 +3,15 @@ use Rattle.cs_file.specs.Parting.{bare}
 use Rattle.cs_file.proofs.PostingsLemmas.{bounded_docs, decoded, decoded_few, decoded_within, part_is}
 use Rattle.cs_file.proofs.postings.judge_block.Goals as goal
 
-pub part_of-requires-clause-few : goal.part_of-requires-clause-few
-part_of-requires-clause-few c =
+pub block_part-requires-clause-few : goal.block_part-requires-clause-few
+block_part-requires-clause-few c =
     let read = decoded c.args.weights c.args.head.now c.args.docs c.args.bytes.now c.in-Ok.ensures.ok.0 c.new-rows.result.posts c.decode.new.into.posts c.words.result.now
     c.new-rows.ensures c.in-Ok.ensures.ok.1 c.in-Ok.ensures.ok.2 c.words.ensures in
     let few = decoded_few c.args.weights c.args.head.now c.args.docs c.args.bytes.now c.decode.new.into.posts c.words.result.now read in
     omega (arith, few, c.requires.rows)
 
-pub part_of-requires-clause-within : goal.part_of-requires-clause-within
-part_of-requires-clause-within c =
+pub block_part-requires-clause-within : goal.block_part-requires-clause-within
+block_part-requires-clause-within c =
     let read = decoded c.args.weights c.args.head.now c.args.docs c.args.bytes.now c.in-Ok.ensures.ok.0 c.new-rows.result.posts c.decode.new.into.posts c.words.result.now
     c.new-rows.ensures c.in-Ok.ensures.ok.1 c.in-Ok.ensures.ok.2 c.words.ensures in
     decoded_within c.args.weights c.args.head.now c.args.docs c.args.bytes.now c.decode.new.into.posts c.words.result.now read

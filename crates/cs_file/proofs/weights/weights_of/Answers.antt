@@ -1,6 +1,6 @@
 use Rattle.std.proofs.Common.{sym, ap, ◌∙◌, arith}
 use Rattle.cs_model_index.specs.WeightsField.{weights_of}
-use Rattle.cs_file.proofs.WeightsLemmas.{field_short, weights_by, weights_of_zero}
+use Rattle.cs_file.proofs.HeaderWeightsLemmas.{field_short, weights_by, weights_of_zero}
 use Rattle.cs_file.proofs.weights.weights_of.Goals as goal
 
 pub returns-then-field-eq0 : goal.returns-then-field-eq0

@@ -6,8 +6,8 @@ use Rattle.cs_model_index.specs.Images.{Image, IsImage, image_corpus}
 use Rattle.cs_model_index.specs.Layout.{title_bytes}
 use Rattle.cs_build.specs.Building.{KeepLimits, corpus_of_rows}
 use Rattle.cs_build.specs.Joining.{joined_rows}
-use Rattle.cs_merge.specs.Vocabularies.{AreWords}
-use Rattle.cs_merge.proofs.MergeLemmas.{AreReady, are_corpus, are_ready, corpora_joined, keep_limits, known_both, once, posts_numbered, words_long, words_of_rows}
+use Rattle.cs_merge.specs.Vocabularies.{AreOfWordSize}
+use Rattle.cs_merge.proofs.MergingLemmas.{AreReady, are_corpus, are_ready, corpora_joined, keep_limits, known_both, once, posts_numbered, words_long, words_of_rows}
 use Rattle.cs_merge.proofs.merging.merge.Goals as goal
 use Rattle.cs_merge.proofs.merging.merge.Goals.{After-deref-2, After-drop-first-2}
 
@@ -28,10 +28,10 @@ also_ready c =
     (c.in_ok-titles.ensures ∙ ap₂ (λ (x y : List (List ℕ)). x ++ y) c.as_slice.ensures c.as_slice-2.ensures)
 
 pub merged-requires-clause-a_words : goal.merged-requires-clause-a_words
-merged-requires-clause-a_words c = subst AreWords (sym (ap (λ (i : Image). i.words) c.a.view_is)) (words_long c.args.a.now c.requires.first)
+merged-requires-clause-a_words c = subst AreOfWordSize (sym (ap (λ (i : Image). i.words) c.a.view_is)) (words_long c.args.a.now c.requires.first)
 
 pub merged-requires-clause-b_words : goal.merged-requires-clause-b_words
-merged-requires-clause-b_words c = subst AreWords (sym (ap (λ (i : Image). i.words) c.b.view_is)) (words_long c.args.b.now c.requires.second)
+merged-requires-clause-b_words c = subst AreOfWordSize (sym (ap (λ (i : Image). i.words) c.b.view_is)) (words_long c.args.b.now c.requires.second)
 
 pub joined_image-requires-clause-first : goal.joined_image-requires-clause-first
 joined_image-requires-clause-first c = posts_numbered c.args.a.now c.requires.first c.from_words-words.result c.deref.result.now (ready c).first

@@ -1,5 +1,5 @@
 use Rattle.std.proofs.Common.{◌∙◌, sym}
-use Rattle.cs_merge.proofs.VocabularyLemmas.{merging_begins, merging_ends}
+use Rattle.cs_merge.proofs.MergedWordLemmas.{merging_begins, merging_ends}
 use Rattle.cs_merge.proofs.vocabulary.merged.Goals as goal
 
 pub loop-alloc-init : goal.loop-alloc-init

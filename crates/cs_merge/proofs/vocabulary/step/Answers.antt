@@ -1,6 +1,6 @@
 use Rattle.std.proofs.Common.{◌≡◌, ◌∙◌, ap₂, length, subst}
 use Rattle.cs_merge.specs.Vocabularies.{IsTurn, turn_word}
-use Rattle.cs_merge.proofs.VocabularyLemmas.{stepped}
+use Rattle.cs_merge.proofs.MergedWordLemmas.{stepped}
 use Rattle.cs_merge.proofs.vocabulary.step.Goals as goal
 
 pub returns : goal.returns

@@ -1,7 +1,7 @@
 use Rattle.std.proofs.Common.{◌∙◌, ap₂, sym}
 use Rattle.std.specs.Ordering.{nat_cmp}
 use Rattle.std.specs.Cmp.Lexicographic.{slice_cmp}
-use Rattle.cs_merge.proofs.VocabularyLemmas.{turned}
+use Rattle.cs_merge.proofs.MergedWordLemmas.{turned}
 use Rattle.cs_merge.proofs.vocabulary.turn_at.Goals as goal
 
 pub returns : goal.returns

@@ -8,11 +8,11 @@ use Rattle.cs_more.proofs.csv_source.push_record.Goals as goal
 
 pub returns-clause-ok : goal.returns-clause-ok
 returns-clause-ok c =
-    c.in_ok-push_document.ensures.ok
+    c.in_ok-push_document_line.ensures.ok
     ∙ ap (λ x. c.args.tsv.now.items ++ x) (line_of_fields c.args.columns (fields_of c.args.fields.now) _ _ _ c.field_in-title.ensures c.field_in-facets.ensures c.field_in-text.ensures)
 
-pub returns-in_err-push_document-clause-too_large : goal.returns-in_err-push_document-clause-too_large
-returns-in_err-push_document-clause-too_large c =
+pub returns-in_err-push_document_line-clause-too_large : goal.returns-in_err-push_document_line-clause-too_large
+returns-in_err-push_document_line-clause-too_large c =
     let line = line_of_fields c.args.columns (fields_of c.args.fields.now) _ _ _ c.field_in-title.ensures c.field_in-facets.ensures c.field_in-text.ensures in
-    let large = subst (λ x. IsErrOf c.push_document.result TooLarge → MAX_COLLECTION_BYTES < length (c.args.tsv.now.items ++ x)) line c.push_document.ensures.too_large in
+    let large = subst (λ x. IsErrOf c.push_document_line.result TooLarge → MAX_COLLECTION_BYTES < length (c.args.tsv.now.items ++ x)) line c.push_document_line.ensures.too_large in
     search rules

@@ -6,7 +6,7 @@ use Rattle.std.specs.Option.{option_map}
 use Rattle.std.specs.Vec.{vec_len}
 use Rattle.cs_model.specs.Words.{words}
 use Rattle.cs_model_excerpts.specs.Runs.{shortest}
-use Rattle.cs_more.specs.RunSearch.{places_of}
+use Rattle.cs_more.specs.RunSearch.{seen_run}
 use Rattle.cs_model_excerpts.specs.Excerpts.{is_positive, run_text, shown_run, textual}
 use Rattle.cs_model_excerpts.specs.OwnWords.{part_marks}
 use Rattle.cs_more.proofs.ShownRuns.{none_marked, run_shown}
@@ -26,8 +26,8 @@ returns-in_default c =
     let marks = c.in_ok-marks.ensures.ok ∙ ap (λ v. textual (map (part_marks v) (filter is_positive c.as_slice-2.result.now))) c.as_slice.ensures ∙ ap (λ ps. textual (map (part_marks ws) (filter is_positive ps))) c.as_slice-2.ensures in
     let long : vec_len c.in_ok-marks.marks ≡ length c.in_ok-marks.marks.items = omega (arith, c.in_ok-marks.marks.ok) in
     record {
-      ok = λ doc same. run_shown c.args.query.now doc ws ms c.is_empty.result (c.in_ok-words.ensures.ok ∙ ap words (sym same)) marks (c.is_empty.ensures ∙ ap (λ n. n == 0) long) c.new-in_default.result (option_map places_of c.in_ok-run.field-0) c.len.result c.if-is_empty.false c.len.ensures
-          (c.in_ok-run.ensures.ok ∙ ap (λ p. shortest p c.len.result) c.deref.ensures.value) (c.new-in_default.ensures ∙ ap (λ o. shown_run ws ms (option_map places_of o)) (sym c.in_default.is));
+      ok = λ doc same. run_shown c.args.query.now doc ws ms c.is_empty.result (c.in_ok-words.ensures.ok ∙ ap words (sym same)) marks (c.is_empty.ensures ∙ ap (λ n. n == 0) long) c.new-in_default.result (option_map seen_run c.in_ok-run.field-0) c.len.result c.if-is_empty.false c.len.ensures
+          (c.in_ok-run.ensures.ok ∙ ap (λ p. shortest p c.len.result) c.deref.ensures.value) (c.new-in_default.ensures ∙ ap (λ o. shown_run ws ms (option_map seen_run o)) (sym c.in_default.is));
     }
 
 pub run_text-requires : goal.run_text-requires
@@ -42,7 +42,7 @@ returns c =
     let marks = c.in_ok-marks.ensures.ok ∙ ap (λ v. textual (map (part_marks v) (filter is_positive c.as_slice-2.result.now))) c.as_slice.ensures ∙ ap (λ ps. textual (map (part_marks ws) (filter is_positive ps))) c.as_slice-2.ensures in
     let long : vec_len c.in_ok-marks.marks ≡ length c.in_ok-marks.marks.items = omega (arith, c.in_ok-marks.marks.ok) in
     record {
-      ok = λ doc same. run_shown c.args.query.now doc ws ms c.is_empty.result (c.in_ok-words.ensures.ok ∙ ap words (sym same)) marks (c.is_empty.ensures ∙ ap (λ n. n == 0) long) c.in_ok-text.text (option_map places_of c.in_ok-run.field-0) c.len.result c.if-is_empty.false c.len.ensures
+      ok = λ doc same. run_shown c.args.query.now doc ws ms c.is_empty.result (c.in_ok-words.ensures.ok ∙ ap words (sym same)) marks (c.is_empty.ensures ∙ ap (λ n. n == 0) long) c.in_ok-text.text (option_map seen_run c.in_ok-run.field-0) c.len.result c.if-is_empty.false c.len.ensures
           (c.in_ok-run.ensures.ok ∙ ap (λ p. shortest p c.len.result) c.deref.ensures.value)
-          (c.in_ok-text.ensures.ok ∙ ap (λ v. run_text v c.deref-2.result.now (places_of c.in-Some.run')) c.as_slice-3.ensures ∙ ap (λ m. run_text ws m (places_of c.in-Some.run')) c.deref-2.ensures.value ∙ ap (λ o. shown_run ws ms (option_map places_of o)) (sym c.in-Some.is));
+          (c.in_ok-text.ensures.ok ∙ ap (λ v. run_text v c.deref-2.result.now (seen_run c.in-Some.run')) c.as_slice-3.ensures ∙ ap (λ m. run_text ws m (seen_run c.in-Some.run')) c.deref-2.ensures.value ∙ ap (λ o. shown_run ws ms (option_map seen_run o)) (sym c.in-Some.is));
     }

@@ -1,7 +1,7 @@
 use Rattle.std.proofs.Common.{◌≡◌, ◌∙◌, ap, arith, sym}
 use Rattle.std.specs.Option.{option_map}
 use Rattle.cs_model_excerpts.specs.Runs.{shortest}
-use Rattle.cs_more.specs.RunSearch.{places_of}
+use Rattle.cs_more.specs.RunSearch.{seen_run}
 use Rattle.cs_more.proofs.RunsReached.{best-within, least_is, none_reached, one_further, start_fits}
 use Rattle.cs_model_excerpts.proofs.ShortestRuns.{shortest_first}
 use Rattle.cs_more.proofs.runs.shortest_run.Goals as goal
@@ -22,7 +22,7 @@ loop-last-preserved c = record {
 pub returns-clause-ok : goal.returns-clause-ok
 returns-clause-ok c =
     let end : c.loop-last.last ≡ c.args.words = omega (arith, c.loop-last-test.false, c.loop-last.auto.last-end) in
-    sym (ap (λ n. shortest c.args.parts.now n) (sym end) ∙ shortest_first c.args.parts.now c.loop-last.last (option_map places_of c.loop-last.best) c.loop-last.invariant.best)
+    sym (ap (λ n. shortest c.args.parts.now n) (sym end) ∙ shortest_first c.args.parts.now c.loop-last.last (option_map seen_run c.loop-last.best) c.loop-last.invariant.best)
 
 pub returns-clause-within : goal.returns-clause-within
 returns-clause-within c = best-within c.args.parts.now c.loop-last.last c.args.words c.loop-last.best c.loop-last.auto.last-end c.loop-last.invariant.best

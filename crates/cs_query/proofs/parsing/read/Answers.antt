@@ -4,7 +4,7 @@ use Rattle.std.specs.Str.{chars}
 use Rattle.std.proofs.lemmas.List.{length_push}
 use Rattle.std.proofs.lemmas.Iterator.{YieldsList-from_chars}
 use Rattle.std.proofs.lemmas.Iterator.Consumers.{YieldsList-turn, YieldsList-end}
-use Rattle.cs_query.specs.Following.{Answers}
+use Rattle.cs_query.specs.Following.{IsAnswerTo}
 use Rattle.cs_query.proofs.Prefixes.{HasRead, one_more, at_stop, at_end}
 use Rattle.cs_query.proofs.parsing.read.Goals as goal
 
@@ -12,7 +12,7 @@ pub returns-in-Err : goal.returns-in-Err
 returns-in-Err c =
     let t = YieldsList-turn (YieldsList-from_chars c.args.key.now c.utf8.key cc) c.loop-c.yielded _ c.loop-c.yielded_by _ _ c.in-Some.c c.in-Some.is c.next.ensures.steps in
     let h = c.loop-c.invariant in
-    subst (λ e. Answers (chars c.args.key.now) (Err e)) (sym c.fault_at.ensures)
+    subst (λ e. IsAnswerTo (chars c.args.key.now) (Err e)) (sym c.fault_at.ensures)
     (at_stop (chars c.args.key.now) (length c.loop-c.yielded) c.loop-c.at c.in-Some.c c.loop-c.reader c.in-Err.stop h (t.0, t.1) (c.in-Err.ensures h.follows.0 h.follows.2))
 
 pub loop-c-preserved : goal.loop-c-preserved

@@ -1,5 +1,5 @@
 use Rattle.std.proofs.Common.{◌≤◌, arith}
-use Rattle.cs_text.proofs.Digits.{tens, tens_small}
+use Rattle.cs_text.proofs.DigitLemmas.{tens, tens_small}
 use Rattle.cs_text.proofs.number.number_of.Goals as goal
 
 pub overflow_mul-number : goal.overflow_mul-number

@@ -1,6 +1,6 @@
 use Rattle.std.proofs.Common.{◌≡◌, ◌<◌, take}
 use Rattle.cs_model.specs.Digits.{number_of}
-use Rattle.cs_text.proofs.Digits.{tens}
+use Rattle.cs_text.proofs.DigitLemmas.{tens}
 use Rattle.cs_text.proofs.number.number_of.Given as goal
 
 abbrev pub invariant-loop-byte : goal.invariant-loop-byte

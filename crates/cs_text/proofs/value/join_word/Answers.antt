@@ -6,18 +6,18 @@ use Rattle.std.proofs.lemmas.Str.{encode_ascii}
 use Rattle.cs_model.specs.Words.{cut}
 use Rattle.cs_text.specs.WordPieces.{joined_with}
 use Rattle.cs_text.proofs.CutLemmas.{some_chars}
-use Rattle.cs_text.proofs.WordPiecesLemmas.{words_in-empty, words_in-some, some_length, nil_from_test}
+use Rattle.cs_text.proofs.WordPiecesLemmas.{words_of_pieces-empty, words_of_pieces-some, some_length, nil_from_test}
 use Rattle.cs_text.proofs.SlugLemmas.{joined_with-next}
 use Rattle.cs_text.proofs.value.join_word.Goals.{then-not-is_empty+in_ok-push, else-not-is_empty}
 use Rattle.cs_text.proofs.value.join_word.Goals as goal
 
 pub returns-then-is_empty : goal.returns-then-is_empty
-returns-then-is_empty c = record { ok = ap (joined_with (string_bytes c.args.joined.now)) (sym (words_in-empty c.args.piece.now (sym c.if-is_empty.ensures))) }
+returns-then-is_empty c = record { ok = ap (joined_with (string_bytes c.args.joined.now)) (sym (words_of_pieces-empty c.args.piece.now (sym c.if-is_empty.ensures))) }
 
 pub returns : goal.returns
 returns c =
     let some : 1 ≤ length c.args.piece.now = some_length _ (sym c.if-is_empty.ensures) in
-    let word = words_in-some (chars c.args.piece.now) (some_chars c.args.piece.now c.utf8.piece some) in
+    let word = words_of_pieces-some (chars c.args.piece.now) (some_chars c.args.piece.now c.utf8.piece some) in
     let grown = c.in_ok-push_str.ensures.bytes ∙ ap (λ w. string_bytes c.if-not-is_empty.joined ++ w) c.cut.ensures.value in
     let old = string_bytes c.args.joined.now in
     let counted : string_len c.args.joined.now ≡ length old = search rules in

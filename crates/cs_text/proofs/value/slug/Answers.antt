@@ -7,7 +7,7 @@ use Rattle.std.specs.String.{string_bytes, string_len}
 use Rattle.cs_model.specs.KeyText.{norm}
 use Rattle.cs_model.specs.Words.{words, words_of, is_gap, cut}
 use Rattle.cs_text.specs.WordPieces.{is_small_word}
-use Rattle.cs_text.proofs.WordPiecesLemmas.{AllSome-words_in}
+use Rattle.cs_text.proofs.WordPiecesLemmas.{AllSome-words_of_pieces}
 use Rattle.cs_text.proofs.SlugLemmas.{slug_of-none, slug_of-some, slug-small_word}
 use Rattle.cs_text.proofs.value.slug.Goals as goal
 
@@ -22,7 +22,7 @@ returns-then-is_empty c =
     let joined = c.in_ok-joined.ensures.ok ∙ ap (λ bs. join_with_byte 95 (words_of (chars bs))) (c.as_str.ensures.value ∙ c.in_ok-key.ensures.ok) in
     let counted : string_len c.in_ok-joined.joined ≡ length (string_bytes c.in_ok-joined.joined) = search rules in
     let none : (length (join_with_byte 95 (words_of (chars (norm c.args.value.now)))) == 0) ≡ true = ap (λ n. n == 0) (ap length (sym joined) ∙ sym counted) ∙ sym c.if-is_empty.ensures in
-    record { ok = sym (slug_of-none (words_of (chars (norm c.args.value.now))) (AllSome-words_in (slice_split is_gap (chars (norm c.args.value.now)))) none) }
+    record { ok = sym (slug_of-none (words_of (chars (norm c.args.value.now))) (AllSome-words_of_pieces (slice_split is_gap (chars (norm c.args.value.now)))) none) }
 
 pub returns : goal.returns
 unfolding words

@@ -13,8 +13,8 @@ use Rattle.cs_top.specs.PutTexts.{PutsTexts}
 use Rattle.cs_top.specs.ScriptEndings.{ScriptEnds, ShortTally, Tally}
 use Rattle.cs_top.specs.ScriptRuns.{AskEnds, AskTold, IsAskedOver}
 use Rattle.cs_top.specs.Views.{ended, of_script, stop_ending}
-use Rattle.cs_top.specs.declared.script.Came.{Came}
-use Rattle.cs_top.specs.declared.script.Came.TheVariants.{Answered, Read, Changed}
+use Rattle.cs_top.specs.declared.script.WhatCame.{WhatCame}
+use Rattle.cs_top.specs.declared.script.WhatCame.TheVariants.{Answered, Read, Changed}
 use Rattle.cs_top.proofs.ShownLemmas.{shown_in}
 use Rattle.cs_top.proofs.StopLemmas.{short_by}
 use Rattle.cs_top.proofs.ScriptLemmas.{ends_by, err_there, made_only, ok_there, over_made, some_made, there_made}
@@ -65,7 +65,7 @@ answer_script-requires-clause-there g c =
     there_made c.in_ok-engine.engine.index c.made-file.result (g.F.Files.held c.args.files.now) (file c.args.image) c.in_ok-engine.store.bytes c.made-file.ensures c.in_ok-engine.ensures.bytes c.in_ok-engine.ensures.fits
 
 -- what came of the lines
-came : (g : given.Over) (c : After-answer_script g) (x y : Came) → c.answer_script.result ≡ Ok x → x ≡ y
+came : (g : given.Over) (c : After-answer_script g) (x y : WhatCame) → c.answer_script.result ≡ Ok x → x ≡ y
     → CameOver c.in_ok-engine.engine c.made-file.result (g.F.Files.held c.args.files.now) y (g.F.Files.faults c.args.files.now) (g.F.Files.faults c.answer_script.new.files)
 came g c x y is same =
     ok_there c.answer_script.result x y (λ a. CameOver c.in_ok-engine.engine c.made-file.result (g.F.Files.held c.args.files.now) a (g.F.Files.faults c.args.files.now) (g.F.Files.faults c.answer_script.new.files))

@@ -18,13 +18,13 @@ use Rattle.cs_top.proofs.build.build.Goals as goal
 use Rattle.cs_top.proofs.build.build.Goals.{In_ok-image}
 
 -- over files that hold h: after the source was read they hold the same
-same : (g : given.Over) (c : In_ok-image g) (h : Held) → g.F.Files.held c.args.files.now ≡ Some h → g.F.Files.held c.read_image.new.files ≡ Some h
+same : (g : given.Over) (c : In_ok-image g) (h : Held) → g.F.Files.held c.args.files.now ≡ Some h → g.F.Files.held c.source_image.new.files ≡ Some h
 same g c h held = c.in_ok-image.ensures.reads.files ∙ c.in_ok-size.ensures.reads.files ∙ held
 
 -- what was read is the image of the source's collection
 has : (g : given.Over) (c : In_ok-image g) (h : Held) → g.F.Files.held c.args.files.now ≡ Some h → HasImage c.args.form h c.args.source.now c.in_ok-image.image
 has g c h held =
-    let here : g.F.Files.held c.size_of.new.files ≡ Some h = c.in_ok-size.ensures.reads.files ∙ held in
+    let here : g.F.Files.held c.told_size.new.files ≡ Some h = c.in_ok-size.ensures.reads.files ∙ held in
     ((held_by _ _ (c.in_ok-size.ensures.ok h held), c.in_ok-image.ensures.accepted h here), (c.in_ok-image.ensures.ok h here).image)
 
 pub returns-in_err-image-clause-ends : goal.returns-in_err-image-clause-ends
@@ -36,11 +36,11 @@ returns-in_err-image-clause-ends g c =
 pub returns-in_err-image-clause-told : goal.returns-in_err-image-clause-told
 returns-in_err-image-clause-told g c h held =
     let s = c.in_err-image.field-0.0 in
-    let here : g.F.Files.held c.size_of.new.files ≡ Some h = c.in_ok-size.ensures.reads.files ∙ held in
+    let here : g.F.Files.held c.told_size.new.files ≡ Some h = c.in_ok-size.ensures.reads.files ∙ held in
     let there : IsHeld (map.get h c.args.source.now) = held_by _ _ (c.in_ok-size.ensures.ok h held) in
     let stops : BuildStops c.args.form (stop_ending s) h c.args.source.now =
     caused_by (λ e. BuildStops c.args.form e h c.args.source.now) c.args.form (held_bytes h c.args.source.now) s c.in_err-image.ensures.kind (c.in_err-image.ensures.cause h here) (λ r is. (there, is)) tt there in
-    let all : BuildTold c.args.form (stop_ending s) h c.args.source.now c.args.index.now (g.F.Files.held c.read_image.new.files) = inl (stops, c.in_err-image.ensures.reads.files ∙ here) in
+    let all : BuildTold c.args.form (stop_ending s) h c.args.source.now c.args.index.now (g.F.Files.held c.source_image.new.files) = inl (stops, c.in_err-image.ensures.reads.files ∙ here) in
     search rules
 
 pub returns-clause-told : goal.returns-clause-told

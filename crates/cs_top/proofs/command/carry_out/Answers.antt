@@ -7,21 +7,21 @@ use Rattle.cs_top.specs.Views.{HasNumbers, ended, seen_command}
 use Rattle.cs_top.proofs.ServeEndings.{ran_by}
 use Rattle.cs_top.proofs.command.carry_out.Goals as goal
 
-pub serve-requires-clause-port : goal.serve-requires-clause-port
-serve-requires-clause-port g c =
+pub serve_index-requires-clause-port : goal.serve_index-requires-clause-port
+serve_index-requires-clause-port g c =
     (subst HasNumbers c.in-Some-Serve.field-0-is (c.command_of.ensures.numbers c.in-Some-Serve.field-0 c.in-Some-Serve.is)).0
 
 pub trial-requires : goal.trial-requires
 trial-requires g c = subst HasNumbers c.in-Some-Trial.field-0-is (c.command_of.ensures.numbers c.in-Some-Trial.field-0 c.in-Some-Trial.is)
 
-pub serve-requires-clause-conns : goal.serve-requires-clause-conns
-serve-requires-clause-conns g c =
+pub serve_index-requires-clause-conns : goal.serve_index-requires-clause-conns
+serve_index-requires-clause-conns g c =
     (subst HasNumbers c.in-Some-Serve.field-0-is (c.command_of.ensures.numbers c.in-Some-Serve.field-0 c.in-Some-Serve.is)).1
 
 pub returns-in-Some-Serve : goal.returns-in-Some-Serve
 returns-in-Some-Serve g c =
     let s = c.in-Some-Serve in
-    let m = met g.F.Files.held g.F.Files.faults g.O.Sink.written g.O.Sink.faults g.H.Hub.state g.H.Hub.talk g.H.Hub.faults g.H.Hub.send_faults c.args.files.now c.serve.new.files c.args.out.now c.serve.new.out c.args.hub.now c.serve.new.hub in
+    let m = met g.F.Files.held g.F.Files.faults g.O.Sink.written g.O.Sink.faults g.H.Hub.state g.H.Hub.talk g.H.Hub.faults g.H.Hub.send_faults c.args.files.now c.serve_index.new.files c.args.out.now c.serve_index.new.out c.args.hub.now c.serve_index.new.hub in
     let e : Some (serve s.index.now s.port.now s.conns.now) ≡ command_of (map string_bytes c.args.words.now.items) =
     ap (λ x. Some (seen_command x)) (sym s.field-0-is) ∙ s.ensures.seen ∙ ap (λ l. command_of (map string_bytes l)) c.deref.ensures.value in
-    record { ran = subst (λ x. Ran (ended c.serve.result) x m) e (ran_by s.index.now s.port.now s.conns.now m (ended c.serve.result) c.serve.ensures.ends c.serve.ensures.told c.serve.ensures.caused c.serve.ensures.files) }
+    record { ran = subst (λ x. Ran (ended c.serve_index.result) x m) e (ran_by s.index.now s.port.now s.conns.now m (ended c.serve_index.result) c.serve_index.ensures.ends c.serve_index.ensures.told c.serve_index.ensures.caused c.serve_index.ensures.files) }

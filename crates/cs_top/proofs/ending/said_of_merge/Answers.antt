@@ -2,7 +2,7 @@ use Rattle.std.proofs.Common.{◌≡◌, ◌++◌, ◌∷◌, [], ◌∙◌, ℕ
 use Rattle.std.specs.Prelude.{codes}
 use Rattle.std.specs.Fmt.{decimal}
 use Rattle.std.proofs.lemmas.List.{append_assoc}
-use Rattle.cs_merge.specs.Merging.{refusal_of}
+use Rattle.cs_merge.specs.Merging.{merge_refusal_of}
 use Rattle.cs_top.specs.CommandLine.{line_of}
 use Rattle.cs_top.specs.Views.{merge_ending}
 use Rattle.cs_top.proofs.ending.said_of_merge.Goals as goal
@@ -13,4 +13,4 @@ ended_behind s t =
     sym (ap (λ x. codes "merge: targets " ++ x) (append_assoc s (codes " and " ++ (t ++ codes " differ")) (10 ∷ []) ∙ ap (λ x. s ++ (codes " and " ++ x)) (append_assoc t (codes " differ") (10 ∷ []))))
 
 pub returns-in-Targets : goal.returns-in-Targets
-returns-in-Targets c = ended_behind (decimal c.in-Targets.first) (decimal c.in-Targets.second) ∙ ap (λ f. line_of (merge_ending (refusal_of f))) (sym c.in-Targets.is)
+returns-in-Targets c = ended_behind (decimal c.in-Targets.first) (decimal c.in-Targets.second) ∙ ap (λ f. line_of (merge_ending (merge_refusal_of f))) (sym c.in-Targets.is)

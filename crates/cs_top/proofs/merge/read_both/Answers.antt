@@ -14,7 +14,7 @@ pub returns-in_err-size-clause-ends : goal.returns-in_err-size-clause-ends
 returns-in_err-size-clause-ends g c =
     let s = c.in_err-size.field-0.0 in
     let old = g.F.Files.held c.args.files.now in
-    let new = g.F.Files.held c.size_of.new.files in
+    let new = g.F.Files.held c.told_size.new.files in
     let all : MergeEnds (stop_ending s) c.args.first.now c.args.second.now old new =
     absence_by (λ e. MergeEnds e c.args.first.now c.args.second.now old new) s c.args.first.now c.in_err-size.ensures.absence (inl refl, c.in_err-size.ensures.reads.files) tt in
     search rules
@@ -23,7 +23,7 @@ pub returns-in_err-second_size-clause-ends : goal.returns-in_err-second_size-cla
 returns-in_err-second_size-clause-ends g c =
     let s = c.in_err-second_size.field-0.0 in
     let old = g.F.Files.held c.args.files.now in
-    let new = g.F.Files.held c.size_of-2.new.files in
+    let new = g.F.Files.held c.told_size-2.new.files in
     let all : MergeEnds (stop_ending s) c.args.first.now c.args.second.now old new =
     absence_by (λ e. MergeEnds e c.args.first.now c.args.second.now old new) s c.args.second.now c.in_err-second_size.ensures.absence (inr refl, c.in_err-second_size.ensures.reads.files ∙ c.in_ok-size.ensures.reads.files) tt in
     search rules

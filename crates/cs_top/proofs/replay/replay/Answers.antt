@@ -8,8 +8,8 @@ use Rattle.cs_model_index.specs.Sections.{file_corpus}
 use Rattle.cs_top.specs.Answering.{AnswersOver, MayAnswer}
 use Rattle.cs_top.specs.ScriptEndings.{ScriptEnds, ShortTally, Tally}
 use Rattle.cs_top.specs.declared.words.HitForm.TheVariants.{Titled}
-use Rattle.cs_top.specs.declared.script.Came.{Came}
-use Rattle.cs_top.specs.declared.script.Came.TheVariants.{Answered, Read, Changed}
+use Rattle.cs_top.specs.declared.script.WhatCame.{WhatCame}
+use Rattle.cs_top.specs.declared.script.WhatCame.TheVariants.{Answered, Read, Changed}
 use Rattle.cs_top.specs.CommandLine.{Ending, done, failed}
 use Rattle.cs_top.specs.HitForms.{AtHand, form_by}
 use Rattle.cs_top.specs.Met.{Wrote, held_bytes, wrote}
@@ -43,8 +43,8 @@ record IsOpen (g : given.Over) (c : After-answer_script g) (h : Held) : Type 0 w
 is_open : (g : given.Over) (c : After-answer_script g) (h : Held) → g.F.Files.held c.args.files.now ≡ Some h → IsOpen g c h
 is_open g c h held =
     let i = c.args.index.now in
-    let first : g.F.Files.held c.size_of.new.files ≡ Some h = c.in_ok-size.ensures.reads.files ∙ held in
-    let second : g.F.Files.held c.size_of-2.new.files ≡ Some h = c.in_ok-script_size.ensures.reads.files ∙ first in
+    let first : g.F.Files.held c.told_size.new.files ≡ Some h = c.in_ok-size.ensures.reads.files ∙ held in
+    let second : g.F.Files.held c.told_size-2.new.files ≡ Some h = c.in_ok-script_size.ensures.reads.files ∙ first in
     let third : g.F.Files.held c.open.new.files ≡ Some h = c.in_ok-engine.ensures.reads.files ∙ second in
     let stands : StandsFor (held_bytes h i) c.in_ok-engine.engine.index = c.in_ok-engine.ensures.ok h second in
     record {
@@ -64,13 +64,13 @@ told g c h held e script =
     inr (o.able, subst (λ n. ReplayScript (k g c h) e (ls g c h) n (g.F.Files.faults c.answer_script.new.files) (w g c)) o.calm script)
 
 -- each line was passed, and this came of them
-abbrev Passed : (g : given.Over) → After-answer_script g → Held → Came → Type 0
+abbrev Passed : (g : given.Over) → After-answer_script g → Held → WhatCame → Type 0
 Passed g c h came = (ts : List (List ℕ))
     × ScriptEnds (MayAnswer None c.held-file.result (k g c h)) done (ls g c h) ts (w g c)
     × Tally came (g.F.Files.faults c.open.new.files) (g.F.Files.faults c.answer_script.new.files) ts
 
 passed : (g : given.Over) (c : After-answer_script g) (h : Held) → g.F.Files.held c.args.files.now ≡ Some h
-    → (x y : Came) → c.answer_script.result ≡ Ok x → x ≡ y → Passed g c h y
+    → (x y : WhatCame) → c.answer_script.result ≡ Ok x → x ≡ y → Passed g c h y
 passed g c h held x y is same =
     let o = is_open g c h held in
     let whole = subst (λ (docs : AtHand). IfOk c.answer_script.result (λ came. (ts : List (List ℕ))
@@ -114,7 +114,7 @@ returns-in-Ok-Changed-clause-told g c h held =
 
 -- ---- over any files
 -- the texts that were put, by what came of the lines
-put_by : (g : given.Over) (c : After-answer_script g) (x y : Came) → c.answer_script.result ≡ Ok x → x ≡ y → PutsTexts Titled y (g.O.Sink.written c.args.out.now) (g.O.Sink.written c.answer_script.new.out)
+put_by : (g : given.Over) (c : After-answer_script g) (x y : WhatCame) → c.answer_script.result ≡ Ok x → x ≡ y → PutsTexts Titled y (g.O.Sink.written c.args.out.now) (g.O.Sink.written c.answer_script.new.out)
 put_by g c x y is same =
     ok_there c.answer_script.result x y (λ came. PutsTexts Titled came (g.O.Sink.written c.args.out.now) (g.O.Sink.written c.answer_script.new.out)) is same
     (subst (λ (docs : AtHand). IfOk c.answer_script.result (λ came. PutsTexts (form_by docs) came (g.O.Sink.written c.args.out.now) (g.O.Sink.written c.answer_script.new.out))) c.titled-showing.ensures c.answer_script.ensures.puts)

@@ -34,7 +34,7 @@ pub returns-in_err-size-clause-ends : goal.returns-in_err-size-clause-ends
 returns-in_err-size-clause-ends g c =
     let s = c.in_err-size.field-0.0 in
     let old = g.F.Files.held c.args.files.now in
-    let new = g.F.Files.held c.size_of.new.files in
+    let new = g.F.Files.held c.told_size.new.files in
     let all : UpgradeEnds (stop_ending s) c.args.index.now old new = absence_by (λ e. UpgradeEnds e c.args.index.now old new) s c.args.index.now c.in_err-size.ensures.absence (refl, c.in_err-size.ensures.reads.files) tt in
     search rules
 
@@ -50,7 +50,7 @@ returns-in_err-image-clause-ends g c =
 pub returns-in_err-image-clause-told : goal.returns-in_err-image-clause-told
 returns-in_err-image-clause-told g c h held =
     let s = c.in_err-image.field-0.0 in
-    let here : g.F.Files.held c.size_of.new.files ≡ Some h = c.in_ok-size.ensures.reads.files ∙ held in
+    let here : g.F.Files.held c.told_size.new.files ≡ Some h = c.in_ok-size.ensures.reads.files ∙ held in
     let there : IsHeld (map.get h c.args.index.now) = held_by _ _ (c.in_ok-size.ensures.ok h held) in
     let stops : UpgradeStops (stop_ending s) h c.args.index.now =
     told_by (λ e. UpgradeStops e h c.args.index.now) (held_bytes h c.args.index.now) s (c.in_err-image.ensures.cause h here) (λ rule at is. (there, is)) tt there in

@@ -8,13 +8,13 @@ use Rattle.cs_trial.proofs.typing.text_word.Goals as goal
 
 pub returns-clause-value : goal.returns-clause-value
 returns-clause-value c =
-    c.with_word.ensures.items ∙ ap (λ b. b ++ word c.below.result) c.in_ok-room.ensures.items
+    c.with_word_of.ensures.items ∙ ap (λ b. b ++ word c.below.result) c.in_ok-room.ensures.items
     ∙ ap word (c.below.ensures.value ∙ ap (drawn WORDS) c.behind-draws.ensures) ∙ text_word_is c.args.n c.args.doc c.args.place c.requires.place
 
 pub returns-clause-ascii : goal.returns-clause-ascii
 returns-clause-ascii c =
-    subst IsAscii (sym (c.with_word.ensures.items ∙ ap (λ b. b ++ word c.below.result) c.in_ok-room.ensures.items)) (word_ascii c.below.result c.below.ensures.small)
+    subst IsAscii (sym (c.with_word_of.ensures.items ∙ ap (λ b. b ++ word c.below.result) c.in_ok-room.ensures.items)) (word_ascii c.below.result c.below.ensures.small)
 
 pub returns-clause-long : goal.returns-clause-long
 returns-clause-long c =
-    ap length (c.with_word.ensures.items ∙ ap (λ b. b ++ word c.below.result) c.in_ok-room.ensures.items) ∙ (word_form c.below.result c.below.ensures.small).long
+    ap length (c.with_word_of.ensures.items ∙ ap (λ b. b ++ word c.below.result) c.in_ok-room.ensures.items) ∙ (word_form c.below.result c.below.ensures.small).long

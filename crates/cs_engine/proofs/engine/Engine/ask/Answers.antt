@@ -1,41 +1,45 @@
-use Rattle.std.proofs.Common.{◌∙◌, [], ap, subst, sym, if◌then◌else◌}
-use Rattle.cs_file.specs.Indexes.{StandsFor}
-use Rattle.cs_query.specs.RequestView.{asked}
-use Rattle.cs_engine.specs.HeldRanges.{FitsRange, IsHeldOver}
-use Rattle.cs_engine.specs.Keeping.{AreGood, EngineView, IsAfter, engine_with, wants_memory}
+use Rattle.std.proofs.Common.{ap, subst, sym}
+use Rattle.cs_file.specs.Indexes.{HasAllBlocks, StandsFor}
+use Rattle.cs_engine.specs.Keeping.{AreGood, EngineView, IsAfter, KeepsAnswers, engine_with}
 use Rattle.cs_engine.specs.declared.engine.Engine.{Engine}
-use Rattle.cs_engine.proofs.LentLemmas.{same_after}
-use Rattle.cs_engine.proofs.RangeLemmas.{held_if}
+use Rattle.cs_engine.proofs.OpenedLemmas.{answers_opened}
 use Rattle.cs_engine.proofs.engine.Engine.ask.Goals as goal
 
 pub invariant_of-self : goal.invariant_of-self
-invariant_of-self g c = (
-  c.answered-answer.ensures.kept,
-  held_if (FitsRange c.self.inside.index) c.wants_memory-wanted.result _ c.give_back.ensures.left c.answered-answer.ensures.held,
-)
+invariant_of-self g c = (c.ask_over.ensures.kept, c.ask_over.ensures.held)
+
+pub ask_over-requires-clause-opened : goal.ask_over-requires-clause-opened
+ask_over-requires-clause-opened g c = record {
+  source = c.index_is_source.ensures;
+  fits = subst (HasAllBlocks (g.S.Store.bytes c.args.store.now)) (sym (ap (λ (e : Engine). e.index) c.self.view_is)) c.requires.fits;
+}
 
 pub returns-clause-ok : goal.returns-clause-ok
-returns-clause-ok g c b is stands good =
-    (c.answered-answer.ensures.told b is (subst (StandsFor b) (sym (ap (λ (e : Engine). e.index) c.self.view_is)) stands)
-    (subst (AreGood b) (sym c.self.view_is) good)).reply
+returns-clause-ok g c b told_is stands good =
+    let i = c.self.inside.index in
+    let is = c.index_is_source.ensures.index in
+    let at = subst (StandsFor b) (sym (ap (λ (e : Engine). e.index) c.self.view_is)) stands in
+    let told = answers_opened b i at is (c.ask_over.ensures.told b told_is at) (subst (AreGood b) (sym c.self.view_is) good) in
+    told.reply
 
 pub returns-clause-good : goal.returns-clause-good
-returns-clause-good g c b is stands good =
-    let told = c.answered-answer.ensures.told b is (subst (StandsFor b) (sym (ap (λ (e : Engine). e.index) c.self.view_is)) stands)
-    (subst (AreGood b) (sym c.self.view_is) good) in
-    record { kept = told.good.kept; held = held_if (IsHeldOver b) c.wants_memory-wanted.result _ c.give_back.ensures.left told.good.held }
+returns-clause-good g c b told_is stands good =
+    let i = c.self.inside.index in
+    let is = c.index_is_source.ensures.index in
+    let at = subst (StandsFor b) (sym (ap (λ (e : Engine). e.index) c.self.view_is)) stands in
+    let told = answers_opened b i at is (c.ask_over.ensures.told b told_is at) (subst (AreGood b) (sym c.self.view_is) good) in
+    told.good
 
 pub returns-clause-after : goal.returns-clause-after
-returns-clause-after g c b is stands good =
-    let told = c.answered-answer.ensures.told b is (subst (StandsFor b) (sym (ap (λ (e : Engine). e.index) c.self.view_is)) stands)
-    (subst (AreGood b) (sym c.self.view_is) good) in
-    subst (λ (e : EngineView). IsAfter b c.args.request.now.query e c.answered-answer.result
-    (engine_with c.self.inside.index c.answered-answer.new.answers c.give_back.new.self)) c.self.view_is
-    (same_after b c.args.request.now.query (engine_with c.self.inside.index c.self.inside.answers c.self.inside.held) c.self.inside.index c.answered-answer.new.answers c.answered-answer.new.held c.give_back.new.self c.answered-answer.result told.after)
+returns-clause-after g c b told_is stands good =
+    let i = c.self.inside.index in
+    let is = c.index_is_source.ensures.index in
+    let at = subst (StandsFor b) (sym (ap (λ (e : Engine). e.index) c.self.view_is)) stands in
+    let told = answers_opened b i at is (c.ask_over.ensures.told b told_is at) (subst (AreGood b) (sym c.self.view_is) good) in
+    subst (λ (e : EngineView). IsAfter b c.args.request.now.query e c.ask_over.result
+    (engine_with c.self.inside.index c.ask_over.new.answers c.ask_over.new.held)) c.self.view_is told.after
 
-pub returns-clause-bounded : goal.returns-clause-bounded
-returns-clause-bounded g c = c.give_back.ensures.bounded
-
-pub returns-clause-given : goal.returns-clause-given
-returns-clause-given g c is =
-    c.give_back.ensures.left ∙ ap (λ w. if w then [] else c.answered-answer.new.held) (c.wants_memory-wanted.ensures ∙ ap wants_memory is)
+pub returns-clause-keeps : goal.returns-clause-keeps
+returns-clause-keeps g c =
+    subst (λ (e : EngineView). KeepsAnswers e.index c.args.request.now.query e.answers c.ask_over.result c.ask_over.new.answers) c.self.view_is
+    c.ask_over.ensures.keeps

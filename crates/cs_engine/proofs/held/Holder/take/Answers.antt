@@ -1,5 +1,5 @@
-use Rattle.std.proofs.Common.{List, ◌∙◌, ap, subst, sym, arith}
-use Rattle.cs_engine.specs.HeldRanges.{IsWithout, PassesAt, is_kind, is_range}
+use Rattle.std.proofs.Common.{List, subst, arith}
+use Rattle.cs_engine.specs.HeldRanges.{IsWithout, PassesAt, is_range}
 use Rattle.cs_engine.specs.declared.held.HeldRange.{HeldRange}
 use Rattle.cs_engine.proofs.RangeLemmas.{less_held, range_taken}
 use Rattle.cs_engine.proofs.held.Holder.take.Goals as goal

@@ -5,10 +5,10 @@ use Rattle.cs_cols.specs.declared.cols.Cols.{Cols}
 use Rattle.cs_file.specs.CallAnswers.{IsBlockOf, IsChangeOfBlock}
 use Rattle.cs_file.specs.ImageSteps.{AreBlocksRead}
 use Rattle.cs_file.specs.Indexes.{IndexView, IsIndex}
-use Rattle.cs_file.specs.ReadImages.{IsChangeBy, image_break}
+use Rattle.cs_file.specs.WholeImages.{IsChangeBy, image_break}
 use Rattle.cs_file.proofs.FetchLemmas.{fault_along}
 use Rattle.cs_file.proofs.HeadsLemmas.{few_heads}
-use Rattle.cs_file.proofs.ImageSteps.{block_changed, blocks_next}
+use Rattle.cs_file.proofs.ImageStepLemmas.{block_changed, blocks_next}
 use Rattle.cs_file.proofs.index.Index.all_blocks.Goals as goal
 
 pub overflow_cast-k : goal.overflow_cast-k

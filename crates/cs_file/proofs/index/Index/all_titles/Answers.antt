@@ -2,9 +2,9 @@ use Rattle.std.proofs.Common.{◌+◌, ◌<◌, refl, sym, ap, subst, ◌∙◌,
 use Rattle.cs_file.specs.CallAnswers.{IsChangeOfTitle}
 use Rattle.cs_file.specs.ImageSteps.{AreTitlesRead}
 use Rattle.cs_file.specs.Indexes.{IndexView, IsIndex}
-use Rattle.cs_file.specs.ReadImages.{IsChangeBy, image_break}
+use Rattle.cs_file.specs.WholeImages.{IsChangeBy, image_break}
 use Rattle.cs_file.proofs.FetchLemmas.{fault_along}
-use Rattle.cs_file.proofs.ImageSteps.{title_changed, titles_next}
+use Rattle.cs_file.proofs.ImageStepLemmas.{title_changed, titles_next}
 use Rattle.cs_file.proofs.index.Index.all_titles.Goals as goal
 
 pub returns-in_err-title-clause-changed : goal.returns-in_err-title-clause-changed

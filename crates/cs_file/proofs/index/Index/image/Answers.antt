@@ -8,9 +8,9 @@ use Rattle.cs_model_index.specs.Images.{Image}
 use Rattle.cs_file.specs.ImageRead.{ImageRead, read_image}
 use Rattle.cs_file.specs.ImageSteps.{AreBlocksRead, AreTitlesRead, IsFilled, parts_break}
 use Rattle.cs_file.specs.Indexes.{IndexView, IsIndex}
-use Rattle.cs_file.specs.ReadImages.{IsChangeBy, IsFileImage, ReadsImage, image_at, image_break}
+use Rattle.cs_file.specs.WholeImages.{IsChangeBy, IsFileImage, ReadsImage, image_at, image_break}
 use Rattle.cs_file.specs.Writable.{CanBeWritten}
-use Rattle.cs_file.proofs.ImageSteps.{filled_read, image_exact, image_read, made_image, parts_changed, reads_along, reads_stood}
+use Rattle.cs_file.proofs.ImageStepLemmas.{filled_read, image_exact, image_read, made_image, parts_changed, reads_along, reads_stood}
 use Rattle.cs_file.proofs.ImageWritten.{image_file, image_fits}
 use Rattle.cs_file.proofs.index.Index.image.Given as given
 use Rattle.cs_file.proofs.index.Index.image.Goals as goal

@@ -1,5 +1,0 @@
-use Rattle.cs_build.proofs.FillLemmas.{NextPlaces}
-use Rattle.cs_build.proofs.filling.places_of.Given as goal
-
-abbrev pub invariant-loop-i : goal.invariant-loop-i
-invariant-loop-i l = NextPlaces l.places.items l.i l.words l.runs

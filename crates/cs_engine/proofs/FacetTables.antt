@@ -1,0 +1,42 @@
+-- The table of a facet.
+--
+--   facet_counted        what is shown of the rows that are counted is the facet's table
+use Rattle.std.proofs.Common.{◌≡◌, ℕ, Bool, List, [], map, take, refl, subst}
+use Rattle.std.specs.Prelude.{filter}
+use Rattle.cs_base.specs.declared.content.doc.Base.{Base}
+use Rattle.cs_base.specs.declared.content.doc.Post.{Post}
+use Rattle.cs_file.specs.Indexes.{StandsFor}
+use Rattle.cs_model.specs.Answers.{begins}
+use Rattle.cs_model.specs.Collection.{named}
+use Rattle.cs_model.specs.Replies.{Shown, FacetShown}
+use Rattle.cs_tables.specs.declared.tables.Completion.{Completion as Numbered}
+use Rattle.cs_tables.specs.TableListings.{post_table}
+use Rattle.cs_vocab.specs.Ranges.{IsRange}
+use Rattle.cs_engine.specs.Counting.{AreListed, in_listed}
+use Rattle.cs_engine.specs.Sources.{IsSource, SourceView, seen}
+use Rattle.cs_engine.specs.Stocked.{facet_at, is_between, shown_at}
+use Rattle.cs_engine.proofs.AnsweringLemmas.{facet_told, words_as_shown}
+use Rattle.cs_engine.proofs.CountingLemmas.{kept_listed}
+use Rattle.cs_engine.proofs.PlainParts.{found_between}
+use Rattle.cs_engine.proofs.RowsInRange.{kept_within}
+use Rattle.cs_engine.proofs.OverSources.{source_within}
+
+module _ (b : List ℕ) (v : SourceView) (stands : StandsFor b v.index) (is : IsSource v) where
+  -- the posts that a facet counts
+  abbrev facet_posts : ℕ → ℕ → List Bool → List Post
+  facet_posts lo hi listed = filter (in_listed listed) (filter (is_between lo hi) (v.stock b).posts)
+
+  -- what is shown of them is the facet's table
+  pub facet_counted : (base : Base) (cut : ℕ) (name copied prefix : List ℕ) (lo hi : ℕ) (listed : List Bool) (ws : List (List ℕ)) (first : List Numbered)
+      (shown : List Shown) → copied ≡ name → prefix ≡ named name [] → IsRange v.words prefix lo hi → AreListed v.docs base listed
+      → ws ≡ v.words → first ≡ take cut (post_table (facet_posts lo hi listed)) → shown ≡ map (shown_at ws) first
+      → ◌≡◌ {A = FacetShown} (record { name = copied; table = shown }) (facet_at (v.stock b) base cut name)
+  facet_counted base cut name copied prefix lo hi listed ws first shown same prefix_is range has words first_is shown_is =
+      let asked = filter (is_between lo hi) (v.stock b).posts in
+      let within = kept_within (seen v) (is_between lo hi) (v.stock b).posts (source_within b v stands is) in
+      let own = subst (λ p. IsRange v.words p lo hi) prefix_is range in
+      let rows = found_between b v stands is (begins (named name [])) lo hi own.holds asked refl in
+      let kept = kept_listed (seen v) base listed asked has within in
+      let table_is = words_as_shown b v stands is (facet_posts lo hi listed)
+      (kept_within (seen v) (in_listed listed) asked within) ws words cut first first_is shown shown_is in
+      facet_told b v stands is base cut name copied asked (facet_posts lo hi listed) v.docs shown same rows refl kept table_is
