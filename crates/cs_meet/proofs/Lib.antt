@@ -3,6 +3,6 @@ pub mod Judged
 pub mod Ascent
 pub mod Listed
 pub mod Ordered
-pub mod United
+pub mod Merged
 pub mod Halving
 pub mod Unlike
