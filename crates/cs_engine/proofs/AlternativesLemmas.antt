@@ -8,15 +8,15 @@
 --   of_none, of_one, of_popped, none_popped     of so many lists
 --   ListsSoFar          the rows of some lists stand for those of the first chains
 --   lists_begin, lists_go_on, lists_end     before the first chain, behind one more, and behind the last
-use Rattle.std.proofs.Common.{◌≡◌, ℕ, suc, ◌+◌, ◌-◌, ◌<◌, ◌≤◌, Bool, true, false, List, [], ◌∷◌, ◌++◌, length, map, take, drop, get_or, refl, sym, ap, ap₂, subst, ◌∙◌, append-nil}
+use Rattle.std.proofs.Common.{◌≡◌, ℕ, suc, ◌+◌, ◌-◌, ◌<◌, ◌≤◌, Bool, true, false, true≢false, cond, Option, Some, None, List, [], ◌∷◌, ◌++◌, length, map, take, drop, get_or, refl, sym, ap, ap₂, subst, ◌∙◌, append-nil}
 use Rattle.std.proofs.Common.{arith, length-take}
 use Rattle.std.specs.Prelude.{flat_map}
-use Rattle.std.specs.List.{All, AllByRecursion, Any, Contains, list_any}
+use Rattle.std.specs.List.{All, AllByRecursion, Any, Contains, find, list_any}
 use Rattle.std.specs.List.Sorted.{IsStrictlySortedBy}
 use Rattle.std.specs.Ordering.{eq_by_cmp}
 use Rattle.std.proofs.lemmas.Grind.{flat_map-append}
 use Rattle.std.proofs.lemmas.List.{length-append, map-append, take-append-drop, take_all, take_more}
-use Rattle.std.proofs.lemmas.List.Elements.{All-append, All-contains, All-filter, All-nil, Contains-append_left, Contains-append_right, Contains-get_or}
+use Rattle.std.proofs.lemmas.List.Elements.{All-append, All-contains, All-nil, All-weaker, Contains-append_left, Contains-append_right, Contains-get_or}
 use Rattle.std.proofs.lemmas.List.Elements.{recursion_from_All}
 use Rattle.std.proofs.lemmas.List.Folds.{Any-from_list_any, list_any_at}
 use Rattle.std.proofs.lemmas.List.Sorted.{All-permutation, list_any-IsPermutation}
@@ -71,9 +71,28 @@ both_ways true b there back = sym (there refl)
 both_ways false true there back = back refl
 both_ways false false there back = refl
 
+abbrev has_value : Option Post → Bool
+has_value None = false
+has_value (Some x) = true
+
+abbrev value_or : Post → Option Post → Post
+value_or d None = d
+value_or d (Some x) = x
+
+found_in : (f : Post → Bool) (rows : List Post) (p : Post) → find f rows ≡ Some p → Contains rows p
+found_in f [] p is = absurd (true≢false (sym (ap has_value is)))
+found_in f (x ∷ rows) p is =
+    elim (f x) as (λ b. cond b (Some x) (find f rows) ≡ Some p → Contains (x ∷ rows) p) [
+      | true ↦ λ here. (0, omega arith, ap (value_or x) here)
+      | false ↦ λ there. Contains-append_right (x ∷ []) rows p (found_in f rows p there)
+    ] is
+
+union_among : (rows posts : List Post) → IsUnion rows posts → All (Contains rows) posts
+union_among rows posts union = All-weaker (λ p. find (shares_place p) rows ≡ Some p) (Contains rows) (λ p is. found_in (shares_place p) rows p is) posts union.first
+
 module _ (rows posts : List Post) (union : IsUnion rows posts) (t : Post → Bool) where
   any_back : Any (λ p. t p ≡ true) posts → list_any t rows ≡ true
-  any_back (k, p, lt, at, passed) = any_at t rows p (All-contains (Contains rows) posts p union.among (k, lt, at)) passed
+  any_back (k, p, lt, at, passed) = any_at t rows p (All-contains (Contains rows) posts p (union_among rows posts union) (k, lt, at)) passed
     where
       any_at : (t : Post → Bool) (rows : List Post) (p : Post) → Contains rows p → t p ≡ true → list_any t rows ≡ true
       any_at t rows p (k, lt, at) passed = list_any_at t rows k p lt (ap t at ∙ passed)
@@ -85,7 +104,7 @@ module _ (rows posts : List Post) (union : IsUnion rows posts) (t : Post → Boo
       where
         from_shared : (r : Post) → Contains rows r → t r ≡ true → Any (λ p. shares_place r p ≡ true) posts → list_any t posts ≡ true
         from_shared r has passed (j, p, lt, at, shared) =
-            let known = All-contains (Contains rows) posts p union.among (j, lt, at) in
+            let known = All-contains (Contains rows) posts p (union_among rows posts union) (j, lt, at) in
             let same : r ≡ p = one_post all up r p (All-contains (Contains all) rows r inside has) (All-contains (Contains all) rows p inside known) shared in
             list_any_at t posts j p lt (ap t (at ∙ sym same) ∙ passed)
 
@@ -94,7 +113,7 @@ module _ (rows posts : List Post) (union : IsUnion rows posts) (t : Post → Boo
 
 pub union_ordered : (rows posts : List Post) → IsUnion rows posts → AreSorted posts → IsOrdered rows posts
 union_ordered rows posts union up =
-    record { sorted = up; among = union.among; alike = λ all up_all inside t. any_union rows posts union t all up_all inside }
+    record { sorted = up; among = union_among rows posts union; alike = λ all up_all inside t. any_union rows posts union t all up_all inside }
 
 -- ---- lists
 abbrev pub flat : List Cols → List Post

@@ -7,23 +7,23 @@
 --   HasFront                    the list whose front is the least
 --   front_is, none_left         the root names it, or no list has a front
 --   merged_first, merged_more, merged_all      before the first post, behind one more, and behind the last
-use Rattle.std.proofs.Common.{◌≡◌, ◌≢◌, ℕ, zero, suc, ◌+◌, ◌-◌, ◌*◌, ◌/◌, ◌%◌, ◌^◌, ◌<◌, ◌≤◌, ◌||◌, Bool, true, false, List, [], ◌∷◌, ◌++◌, length, map, get_or, set, take, replicate, cond, append-nil, inl, inr, refl, sym, ◌∙◌, ap, subst, arith}
+use Rattle.std.proofs.Common.{◌≡◌, ◌≢◌, ℕ, zero, suc, ◌+◌, ◌-◌, ◌*◌, ◌/◌, ◌%◌, ◌^◌, ◌<◌, ◌≤◌, ◌||◌, Bool, true, false, List, [], ◌∷◌, ◌++◌, length, map, get_or, set, take, replicate, cond, append-nil, Some, inl, inr, refl, sym, ◌∙◌, ap, subst, arith}
 use Rattle.std.specs.Prelude.{All, flat_map, nat_eq, nat_le, nat_lt}
-use Rattle.std.specs.List.{AllByRecursion, Contains, list_any}
+use Rattle.std.specs.List.{AllByRecursion, find, list_any}
 use Rattle.std.specs.List.Sorted.{IsStrictlySortedBy}
 use Rattle.std.specs.declared.cmp.Ordering.TheVariants.{Less}
 use Rattle.std.proofs.lemmas.Grind.{flat_map-append}
 use Rattle.std.proofs.lemmas.List.{take_more, length-map, get_or-map, get_or-replicate, get_or-set_other, get_or-set_same, get_or_default, length-append, length-set}
-use Rattle.std.proofs.lemmas.List.Elements.{All-append, All-nil, All-push, All-weaker, Contains-append_left, Contains-append_right, recursion_from_All}
+use Rattle.std.proofs.lemmas.List.Elements.{All-append, All-nil, All-push, All-weaker, recursion_from_All}
 use Rattle.std.proofs.lemmas.List.Folds.{flat_map-map, list_any-append}
 use Rattle.std.proofs.lemmas.Map.Keys.{Less-from_sorted}
 use Rattle.std.proofs.lemmas.Bool.Decides.{nat_tests}
 use Rattle.cs_base.specs.declared.content.doc.Post.{Post}
 use Rattle.cs_base.specs.content.Orders.{by_place, AreSorted}
-use Rattle.cs_base.proofs.OrdersLemmas.{Comes, comes_first, less-from_comes}
+use Rattle.cs_base.proofs.OrdersLemmas.{by_place_total, Comes, comes_first, less-from_comes}
 use Rattle.cs_cols.specs.declared.cols.Cols.{Cols}
 use Rattle.cs_meet.specs.Filters.{IsUnion, shares_place}
-use Rattle.cs_meet.specs.Fronts.{AreFronts, IsFront, IsKeyOf, IsNarrow, IsTree, place_number}
+use Rattle.cs_meet.specs.Fronts.{AreFronts, IsFrontAt, IsFrontNumber, IsNarrow, IsTree, place_number}
 use Rattle.cs_meet.specs.declared.fronts.TheConstants.{MOST_LISTS, NO_FRONT, ROOM}
 
 -- ---- lists of posts
@@ -40,10 +40,28 @@ flat_all : (P : Post → Type 0) (all : List (List Post)) → ((k : ℕ) → k <
 flat_all P [] each = All-nil P
 flat_all P (l ∷ all) each = All-append P l (flat all) (each 0 (omega arith)) (flat_all P all (λ k within. each (suc k) (omega (arith, within))))
 
-flat_has : (all : List (List Post)) (k : ℕ) (p : Post) → k < length all → Contains (get_or all k []) p → Contains (flat all) p
-flat_has [] k p within has = absurd (omega (arith, within))
-flat_has (l ∷ all) zero p within has = Contains-append_left l (flat all) p has
-flat_has (l ∷ all) (suc k) p within has = Contains-append_right l (flat all) p (flat_has all k p (omega (arith, within)) has)
+-- the first post that passes
+find_behind : (f : Post → Bool) (xs ys : List Post) → ((i : ℕ) (e : Post) → i < length xs → f (get_or xs i e) ≡ false) → find f (xs ++ ys) ≡ find f ys
+find_behind f [] ys none = refl
+find_behind f (x ∷ xs) ys none =
+    ap (λ b. cond b (Some x) (find f (xs ++ ys))) (none 0 x (omega arith)) ∙ find_behind f xs ys (λ i e within. none (suc i) e (omega (arith, within)))
+
+find_here : (f : Post → Bool) (xs ys : List Post) (h : ℕ) (p : Post) → h < length xs → p ≡ get_or xs h p → f p ≡ true
+    → ((i : ℕ) (e : Post) → i < h → f (get_or xs i e) ≡ false) → find f (xs ++ ys) ≡ Some p
+find_here f [] ys h p within is passes none = absurd (omega (arith, within))
+find_here f (x ∷ xs) ys zero p within is passes none =
+    ap (λ q. cond (f q) (Some q) (find f (xs ++ ys))) (sym is) ∙ ap (λ b. cond b (Some p) (find f (xs ++ ys))) passes
+find_here f (x ∷ xs) ys (suc h) p within is passes none =
+    ap (λ b. cond b (Some x) (find f (xs ++ ys))) (none 0 x (omega arith))
+    ∙ find_here f xs ys h p (omega (arith, within)) is passes (λ i e below. none (suc i) e (omega (arith, below)))
+
+find_flat : (f : Post → Bool) (all : List (List Post)) (k h : ℕ) (p : Post) → k < length all → h < length (get_or all k []) → p ≡ get_or (get_or all k []) h p → f p ≡ true
+    → ((i : ℕ) (e : Post) → i < h → f (get_or (get_or all k []) i e) ≡ false)
+    → ((j : ℕ) → j < k → (i : ℕ) (e : Post) → i < length (get_or all j []) → f (get_or (get_or all j []) i e) ≡ false) → find f (flat all) ≡ Some p
+find_flat f [] k h p within lt is passes own others = absurd (omega (arith, within))
+find_flat f (l ∷ all) zero h p within lt is passes own others = find_here f l (flat all) h p lt is passes own
+find_flat f (l ∷ all) (suc k) h p within lt is passes own others =
+    find_behind f l (flat all) (others 0 (omega arith)) ∙ find_flat f all k h p (omega (arith, within)) lt is passes own (λ j below. others (suc j) (omega (arith, below)))
 
 -- ---- how many are left
 abbrev pub left : List (List Post) → List ℕ → ℕ
@@ -129,6 +147,12 @@ same_place x y nx ny h =
     let word : x.word ≡ y.word = omega (arith, h, doc, pos) in
     grind (arith, nat_tests, doc, pos, word)
 
+comes_elsewhere : (x r : Post) → Comes x r → shares_place r x ≡ false
+comes_elsewhere x r h = grind (arith, nat_tests)
+
+comes_later : (x r : Post) → Comes r x → shares_place r x ≡ false
+comes_later x r h = grind (arith, nat_tests)
+
 -- ---- the tree
 -- a list whose front the root is
 pub record HasRoot (n : ℕ) (tree : List ℕ) : Type 0 where
@@ -198,14 +222,14 @@ module _ (n : ℕ) (tree : List ℕ) (is : IsTree n tree) where
 -- list number k has a front, and the root is its number
 pub record HasFront (all : List (List Post)) (head : ℕ → ℕ) (tree : List ℕ) (k : ℕ) : Type 0 where
   pub more : head k < length (get_or all k [])
-  pub key : (e : Post) → IsKeyOf (get_or (get_or all k []) (head k) e) k (get_or tree 1 0)
+  pub key : (e : Post) → IsFrontNumber (get_or (get_or all k []) (head k) e) k (get_or tree 1 0)
 
 module _ (n : ℕ) (all : List (List Post)) (head : ℕ → ℕ) (tree : List ℕ) (is : IsTree n tree) (fronts : AreFronts n all head tree) (some : 1 ≤ n)
     (few : n ≤ MOST_LISTS) where
-  key_list : (p : Post) (k key : ℕ) → k < n → IsKeyOf p k key → key % ROOM ≡ k
+  key_list : (p : Post) (k key : ℕ) → k < n → IsFrontNumber p k key → key % ROOM ≡ k
   key_list p k key within h = let is_key = h.is in omega (arith, few, within, is_key)
 
-  key_low : (p : Post) (k key : ℕ) → k < n → IsKeyOf p k key → key < NO_FRONT
+  key_low : (p : Post) (k key : ℕ) → k < n → IsFrontNumber p k key → key < NO_FRONT
   key_low p k key within h =
       let is_key = h.is in
       let doc = h.narrow.doc in
@@ -213,16 +237,16 @@ module _ (n : ℕ) (all : List (List Post)) (head : ℕ → ℕ) (tree : List �
       let word = h.narrow.word in
       omega (arith, few, within, is_key, doc, pos, word)
 
-  front_at : (root : HasRoot n tree) (number : ℕ) → number ≡ get_or tree 1 0 % ROOM → number < n → HasFront all head tree number
-  front_at root number is_number within =
+  front_by : (root : HasRoot n tree) (number : ℕ) → number ≡ get_or tree 1 0 % ROOM → number < n → HasFront all head tree number
+  front_by root number is_number within =
       let k = root.list in
       let front = fronts k root.within in
       elim (nat_lt (head k) (length (get_or all k []))) as (λ t. nat_lt (head k) (length (get_or all k [])) ≡ t → HasFront all head tree number) [
         | true ↦ λ t.
             let more : head k < length (get_or all k []) = grind (arith, nat_tests) in
             let blank : Post = record { doc = 0; word = 0; pos = 0; score = 0 } in
-            let key : (e : Post) → IsKeyOf (get_or (get_or all k []) (head k) e) k (get_or tree 1 0) =
-            λ e. subst (IsKeyOf (get_or (get_or all k []) (head k) e) k) root.same (front.there e more) in
+            let key : (e : Post) → IsFrontNumber (get_or (get_or all k []) (head k) e) k (get_or tree 1 0) =
+            λ e. subst (IsFrontNumber (get_or (get_or all k []) (head k) e) k) root.same (front.there e more) in
             let same : k ≡ number = sym (is_number ∙ key_list _ k _ root.within (key blank)) in
             subst (HasFront all head tree) same (record { more = more; key = key })
         | false ↦ λ t.
@@ -232,7 +256,7 @@ module _ (n : ℕ) (all : List (List Post)) (head : ℕ → ℕ) (tree : List �
       ] refl
 
   pub front_is : (number : ℕ) → number ≡ get_or tree 1 0 % ROOM → number < n → HasFront all head tree number
-  front_is number is_number within = front_at (has_root n tree is some) number is_number within
+  front_is number is_number within = front_by (has_root n tree is some) number is_number within
 
   none_at_root : (root : HasRoot n tree) (number : ℕ) → number ≡ get_or tree 1 0 % ROOM → n ≤ number → get_or tree 1 0 ≡ NO_FRONT
   none_at_root root number is_number past =
@@ -241,7 +265,7 @@ module _ (n : ℕ) (all : List (List Post)) (head : ℕ → ℕ) (tree : List �
       elim (nat_lt (head k) (length (get_or all k []))) as (λ t. nat_lt (head k) (length (get_or all k [])) ≡ t → get_or tree 1 0 ≡ NO_FRONT) [
         | true ↦ λ t.
             let blank : Post = record { doc = 0; word = 0; pos = 0; score = 0 } in
-            let key = subst (IsKeyOf (get_or (get_or all k []) (head k) blank) k) root.same (front.there blank (grind (arith, nat_tests))) in
+            let key = subst (IsFrontNumber (get_or (get_or all k []) (head k) blank) k) root.same (front.there blank (grind (arith, nat_tests))) in
             let same = key_list _ k _ root.within key in
             let inside = root.within in
             absurd (omega (arith, same, is_number, past, inside))
@@ -285,12 +309,12 @@ sorted_pushed (x ∷ posts) p up less = (all_pushed (λ y. by_place x y ≡ Less
 -- of the posts of all lists, those that are found are at places before number `next`
 pub record IsFound (all : List (List Post)) (posts : List Post) (next : ℕ) : Type 0 where
   pub sorted : AreSorted posts
-  pub among : All (Contains (flat all)) posts
+  pub first : All (λ p. find (shares_place p) (flat all) ≡ Some p) posts
   pub below : All (λ p. IsNarrow p × (place_number p < next)) posts
   pub reached : (p : Post) → IsNarrow p → place_number p + 1 ≡ next → list_any (shares_place p) posts ≡ true
 
 module _ (all : List (List Post)) (posts : List Post) (next : ℕ) (found : IsFound all posts next) (row : Post) (narrow : IsNarrow row)
-    (has : Contains (flat all) row) (near : next ≤ place_number row + 1) where
+    (has : next ≤ place_number row → find (shares_place row) (flat all) ≡ Some row) (near : next ≤ place_number row + 1) where
   abbrev end : ℕ
   end = place_number row + 1
 
@@ -299,7 +323,7 @@ module _ (all : List (List Post)) (posts : List Post) (next : ℕ) (found : IsFo
     sorted = sorted_pushed posts row found.sorted (recursion_from_All (λ p. by_place p row ≡ Less) posts
         (All-weaker (λ p. IsNarrow p × (place_number p < next)) (λ p. by_place p row ≡ Less)
         (λ p h. let below = h.1 in less-from_comes p row (less_numbers p row h.0 narrow (omega (arith, below, on)))) posts found.below));
-    among = All-push (Contains (flat all)) posts row found.among has;
+    first = All-push (λ p. find (shares_place p) (flat all) ≡ Some p) posts row found.first (has on);
     below = All-push (λ p. IsNarrow p × (place_number p < end)) posts row
         (All-weaker (λ p. IsNarrow p × (place_number p < next)) (λ p. IsNarrow p × (place_number p < end))
         (λ p h. let below = h.1 in (h.0, omega (arith, below, near))) posts found.below) (narrow, omega arith);
@@ -327,6 +351,8 @@ pub record IsMerged (n : ℕ) (all : List (List Post)) (heads tree : List ℕ) (
   pub fronts : AreFronts n all (λ k. get_or heads k 0) tree
   pub found : IsFound all posts next
   pub taken : (k : ℕ) → k < n → (i : ℕ) (e : Post) → i < get_or heads k 0 → list_any (shares_place (get_or (get_or all k []) i e)) posts ≡ true
+  pub passed : (k : ℕ) → k < n → (i : ℕ) (e : Post) → i < get_or heads k 0
+      → IsNarrow (get_or (get_or all k []) i e) × (place_number (get_or (get_or all k []) i e) < next)
   pub ahead : (k : ℕ) → k < n → (e : Post) → get_or heads k 0 < length (get_or all k []) → next ≤ place_number (get_or (get_or all k []) (get_or heads k 0) e) + 1
 
 pub merged_first : (n : ℕ) (all : List (List Post)) (heads tree : List ℕ) (posts : List Post) → heads ≡ replicate n 0 → length heads ≡ n → IsTree n tree
@@ -336,14 +362,15 @@ merged_first n all heads tree posts is even least fronts none =
     subst (λ (ps : List Post). IsMerged n all heads tree ps 0) (sym none) (record {
       even = even;
       least = least;
-      fronts = λ k within. subst (λ h. IsFront (get_or all k []) h k (get_or tree (n + k) 0)) (sym (zero_at k within)) (fronts k within);
+      fronts = λ k within. subst (λ h. IsFrontAt (get_or all k []) h k (get_or tree (n + k) 0)) (sym (zero_at k within)) (fronts k within);
       found = record {
         sorted = nothing_sorted;
-        among = All-nil (Contains (flat all));
+        first = All-nil (λ p. find (shares_place p) (flat all) ≡ Some p);
         below = All-nil (λ p. IsNarrow p × (place_number p < 0));
         reached = λ p narrow is. absurd (omega (arith, is));
       };
       taken = λ k within i e lt. absurd (let zero_is = zero_at k within in omega (arith, lt, zero_is));
+      passed = λ k within i e lt. absurd (let zero_is = zero_at k within in omega (arith, lt, zero_is));
       ahead = λ k within e more. omega arith;
     })
 
@@ -373,11 +400,8 @@ module _ (n : ℕ) (all : List (List Post)) (heads tree : List ℕ) (posts : Lis
             subst (P k) (sym (get_or-set_other heads number k (head + 1) 0 apart)) (others k apart k_within)
       ] refl
 
-  key : IsKeyOf row number (get_or tree 1 0)
-  key = subst (λ p. IsKeyOf p number (get_or tree 1 0)) (sym is_row) (front.key row)
-
-  in_all : Contains (flat all) row
-  in_all = flat_has all number row (omega (arith, within, long)) (head, front.more, sym is_row)
+  key : IsFrontNumber row number (get_or tree 1 0)
+  key = subst (λ p. IsFrontNumber p number (get_or tree 1 0)) (sym is_row) (front.key row)
 
   row_at : (e : Post) → row ≡ get_or list head e
   row_at e = is_row ∙ get_or_default list head row e front.more
@@ -393,15 +417,58 @@ module _ (n : ℕ) (all : List (List Post)) (heads tree : List ℕ) (posts : Lis
       let least = root_least n tree merged.least k k_within in
       omega (arith, own, other, least, within, k_within, few)
 
+  -- a front of an earlier list comes behind it
+  later_front : (k : ℕ) → k < number → (e : Post) → get_or heads k 0 < length (get_or all k []) → Comes row (get_or (get_or all k []) (get_or heads k 0) e)
+  later_front k below e more =
+      let k_within : k < n = omega (arith, below, within) in
+      let own = key.is in
+      let there = (merged.fronts k k_within).there e more in
+      let other = there.is in
+      let least = root_least n tree merged.least k k_within in
+      less_numbers row (get_or (get_or all k []) (get_or heads k 0) e) key.narrow there.narrow (omega (arith, own, other, least, within, below, few))
+
+  -- no post of an earlier list has its place, where none was reached yet
+  none_before : next ≤ place_number row → (k : ℕ) → k < number → (i : ℕ) (e : Post) → i < length (get_or all k []) → shares_place row (get_or (get_or all k []) i e) ≡ false
+  none_before on k below i e i_within =
+      let k_within : k < n = omega (arith, below, within) in
+      let l = get_or all k [] in
+      let h = get_or heads k 0 in
+      elim (nat_lt i h) as (λ t. nat_lt i h ≡ t → shares_place row (get_or l i e) ≡ false) [
+        | true ↦ λ t.
+            let old = merged.passed k k_within i e (grind (arith, nat_tests)) in
+            let less = old.1 in
+            comes_elsewhere (get_or l i e) row (less_numbers (get_or l i e) row old.0 key.narrow (omega (arith, less, on)))
+        | false ↦ λ t.
+            let from : h ≤ i = grind (arith, nat_tests) in
+            let front_row = later_front k below e (omega (arith, from, i_within)) in
+            elim (nat_lt h i) as (λ u. nat_lt h i ≡ u → shares_place row (get_or l i e) ≡ false) [
+              | true ↦ λ u.
+                  let next_row = Less-from_sorted by_place l h i e (up k k_within) (grind (arith, nat_tests)) i_within in
+                  comes_later (get_or l i e) row (comes_first row (get_or l i e)
+                  (by_place_total.trans row (get_or l h e) (get_or l i e) (less-from_comes row (get_or l h e) front_row) next_row))
+              | false ↦ λ u.
+                  let same : h ≡ i = grind (arith, nat_tests) in
+                  subst (λ j. shares_place row (get_or l j e) ≡ false) same (comes_later (get_or l h e) row front_row)
+            ] refl
+      ] refl
+
+  none_own : (i : ℕ) (e : Post) → i < head → shares_place row (get_or list i e) ≡ false
+  none_own i e below =
+      let less = subst (λ p. by_place (get_or list i e) p ≡ Less) (sym (row_at e)) (Less-from_sorted by_place list i head e (up number within) below front.more) in
+      comes_elsewhere (get_or list i e) row (comes_first (get_or list i e) row less)
+
+  is_first : next ≤ place_number row → find (shares_place row) (flat all) ≡ Some row
+  is_first on = find_flat (shares_place row) all number head row (omega (arith, within, long)) front.more is_row (same_place row row key.narrow key.narrow refl) none_own (none_before on)
+
   pub place_is : (place : ℕ) → place ≡ get_or tree 1 0 / ROOM → place ≡ place_number row
   place_is place is = let own = key.is in omega (arith, is, own, within, few)
 
-  module _ (now : List ℕ) (put : ℕ) (now_tree : IsTree n now) (put_is : IsFront list (head + 1) number put) (put_at : get_or now (n + number) 0 ≡ put)
+  module _ (now : List ℕ) (put : ℕ) (now_tree : IsTree n now) (put_is : IsFrontAt list (head + 1) number put) (put_at : get_or now (n + number) 0 ≡ put)
       (others : (k : ℕ) → k < n → k ≢ number → get_or now (n + k) 0 ≡ get_or tree (n + k) 0) where
     fronts_on : AreFronts n all (λ k. get_or heads_on k 0) now
-    fronts_on = by_list (λ k h. IsFront (get_or all k []) h k (get_or now (n + k) 0))
-        (subst (IsFront list (head + 1) number) (sym put_at) put_is)
-        (λ k apart k_within. subst (IsFront (get_or all k []) (get_or heads k 0) k) (sym (others k k_within apart)) (merged.fronts k k_within))
+    fronts_on = by_list (λ k h. IsFrontAt (get_or all k []) h k (get_or now (n + k) 0))
+        (subst (IsFrontAt list (head + 1) number) (sym put_at) put_is)
+        (λ k apart k_within. subst (IsFrontAt (get_or all k []) (get_or heads k 0) k) (sym (others k k_within apart)) (merged.fronts k k_within))
 
     ahead_on : (k : ℕ) → k < n → (e : Post) → get_or heads_on k 0 < length (get_or all k []) → place_number row + 1 ≤ place_number (get_or (get_or all k []) (get_or heads_on k 0) e) + 1
     ahead_on = by_list (λ k h. (e : Post) → h < length (get_or all k []) → place_number row + 1 ≤ place_number (get_or (get_or all k []) h e) + 1)
@@ -416,8 +483,8 @@ module _ (n : ℕ) (all : List (List Post)) (heads tree : List ℕ) (posts : Lis
         → IsMerged n all heads_on now (cond t (posts ++ row ∷ []) posts) (place + 1)
     merged_more t place at tested =
         let same = place_is place at in
-        let found = found_next all posts next merged.found row key.narrow in_all near_row t (tested ∙ ap (nat_le next) same) in
-        let keeps = found_keeps all posts next merged.found row key.narrow in_all near_row t in
+        let found = found_next all posts next merged.found row key.narrow is_first near_row t (tested ∙ ap (nat_le next) same) in
+        let keeps = found_keeps all posts next merged.found row key.narrow is_first near_row t in
         subst (λ m. IsMerged n all heads_on now (cond t (posts ++ row ∷ []) posts) (m + 1)) (sym same) (record {
           even = length-set heads number (head + 1) ∙ merged.even;
           least = now_tree;
@@ -432,13 +499,27 @@ module _ (n : ℕ) (all : List (List Post)) (heads tree : List ℕ) (posts : Lis
                     subst (λ p. list_any (shares_place p) (cond t (posts ++ row ∷ []) posts) ≡ true) (row_at e ∙ ap (λ j. get_or list j e) here) own
               ] refl)
               (λ k apart k_within i e lt. keeps (get_or (get_or all k []) i e) (merged.taken k k_within i e lt));
+          passed = by_list (λ k h. (i : ℕ) (e : Post) → i < h → IsNarrow (get_or (get_or all k []) i e) × (place_number (get_or (get_or all k []) i e) < place_number row + 1))
+              (λ i e lt. elim (nat_lt i head) as (λ u. nat_lt i head ≡ u → IsNarrow (get_or list i e) × (place_number (get_or list i e) < place_number row + 1)) [
+                | true ↦ λ u.
+                    let old = merged.passed number within i e (grind (arith, nat_tests)) in
+                    let less = old.1 in
+                    (old.0, omega (arith, less, near_row))
+                | false ↦ λ u.
+                    let here : head ≡ i = grind (arith, nat_tests) in
+                    subst (λ p. IsNarrow p × (place_number p < place_number row + 1)) (row_at e ∙ ap (λ j. get_or list j e) here) (key.narrow, omega arith)
+              ] refl)
+              (λ k apart k_within i e lt.
+              let old = merged.passed k k_within i e lt in
+              let less = old.1 in
+              (old.0, omega (arith, less, near_row)));
           ahead = ahead_on;
         })
 
 pub merged_all : (n : ℕ) (all : List (List Post)) (heads tree : List ℕ) (posts : List Post) (next : ℕ) → IsMerged n all heads tree posts next → n ≡ length all
     → ((k : ℕ) → k < n → length (get_or all k []) ≤ get_or heads k 0) → IsUnion (flat all) posts
 merged_all n all heads tree posts next merged long past = record {
-  among = merged.found.among;
+  first = merged.found.first;
   placed = flat_all (λ r. list_any (shares_place r) posts ≡ true) all (λ k within i e lt.
       let k_within : k < n = omega (arith, within, long) in
       let behind = past k k_within in
@@ -484,7 +565,7 @@ module _ (lists : List Cols) (heads tree : List ℕ) (posts : List Post) (next :
         (left_less (posts_in lists) heads number (merged.even ∙ long) (omega (arith, within, long)) here.more)
 
     pub merged_next : All (λ c. AreSorted c.posts) lists → (row : Post) → row ≡ get_or l.posts head row → (root place : ℕ) → root ≡ get_or tree 1 root → place ≡ root / ROOM
-        → (again : Cols) → again ≡ get_or lists number again → (now : List ℕ) (put : ℕ) → IsTree (length lists) now → IsFront again.posts (head + 1) number put
+        → (again : Cols) → again ≡ get_or lists number again → (now : List ℕ) (put : ℕ) → IsTree (length lists) now → IsFrontAt again.posts (head + 1) number put
         → get_or now (length lists + number) 0 ≡ put
         → ((k : ℕ) → k < length lists → k ≢ number → get_or now (length lists + k) 0 ≡ get_or tree (length lists + k) 0)
         → IsMerged (length lists) (posts_in lists) (set heads number (head + 1)) now (cond (nat_le next place) (posts ++ row ∷ []) posts) (place + 1)
@@ -493,9 +574,9 @@ module _ (lists : List Cols) (heads tree : List ℕ) (posts : List Post) (next :
         let root_at : root ≡ get_or tree 1 0 = is_root ∙ get_or_default tree 1 root 0 (omega (arith, len, within)) in
         let row_is : row ≡ get_or (get_or (posts_in lists) number []) (get_or heads number 0) row =
         is_row ∙ ap (λ ps. get_or ps head row) (sym l_at) ∙ ap (λ h. get_or (get_or (posts_in lists) number []) h row) (sym head_at) in
-        let put_front : IsFront (get_or (posts_in lists) number []) (get_or heads number 0 + 1) number put =
-        subst (λ h. IsFront (get_or (posts_in lists) number []) (h + 1) number put) (sym head_at)
-        (subst (λ ps. IsFront ps (head + 1) number put) (sym (list_at lists number again within is_again)) put_is) in
+        let put_front : IsFrontAt (get_or (posts_in lists) number []) (get_or heads number 0 + 1) number put =
+        subst (λ h. IsFrontAt (get_or (posts_in lists) number []) (h + 1) number put) (sym head_at)
+        (subst (λ ps. IsFrontAt ps (head + 1) number put) (sym (list_at lists number again within is_again)) put_is) in
         subst (λ h. IsMerged (length lists) (posts_in lists) (set heads number (h + 1)) now (cond (nat_le next place) (posts ++ row ∷ []) posts) (place + 1)) head_at
         (merged_more (length lists) (posts_in lists) heads tree posts next merged long few (sorted_in lists up) number within here row row_is now put now_tree put_front put_at
         others (nat_le next place) place (is_place ∙ ap (λ r. r / ROOM) root_at) refl)

@@ -8,10 +8,10 @@
 -- winners that are numbers.
 --
 --   place_number p       a number of the document, the position and the word of a post, in the order of these
---   key_of p list        the number of a front
+--   front_number p list        the number of a front
 --   IsNarrow p           a post whose numbers have room
---   IsKeyOf p list key   the number of such a post at the front of a list
---   IsFront posts head list key      the number of the front of a list of which so many posts are taken
+--   IsFrontNumber p list key   the number of such a post at the front of a list
+--   IsFrontAt posts head list key      the number of the front of a list of which so many posts are taken
 --   IsTree n tree        at each place before the fronts stands the lesser of two
 --   AreFronts n lists head tree      the fronts of n lists, of which so many posts each are taken
 use Rattle.std.specs.Prelude.{◌≡◌, ℕ, ◌+◌, ◌*◌, ◌^◌, ◌≤◌, ◌<◌, List, [], length, min, slice_index, slice_index_or}
@@ -23,8 +23,8 @@ abbrev pub place_number : Post → ℕ
 place_number p = (p.doc * ROOM + p.pos) * ROOM + p.word
 
 -- the place first, then the list
-abbrev pub key_of : Post → ℕ → ℕ
-key_of p list = place_number p * ROOM + list
+abbrev pub front_number : Post → ℕ → ℕ
+front_number p list = place_number p * ROOM + list
 
 -- each post in memory is
 pub record IsNarrow (p : Post) : Type 0 where
@@ -33,14 +33,14 @@ pub record IsNarrow (p : Post) : Type 0 where
   pub word : p.word < ROOM
 
 -- its number tells its place
-pub record IsKeyOf (p : Post) (list key : ℕ) : Type 0 where
-  pub is : key ≡ key_of p list
+pub record IsFrontNumber (p : Post) (list key : ℕ) : Type 0 where
+  pub is : key ≡ front_number p list
   pub narrow : IsNarrow p
 
 -- that of no front where all are taken; posts in memory can be counted
-pub record IsFront (posts : List Post) (head list key : ℕ) : Type 0 where
+pub record IsFrontAt (posts : List Post) (head list key : ℕ) : Type 0 where
   pub small : length posts < 2 ^ 63
-  pub there : (e : Post) → head < length posts → IsKeyOf (slice_index_or posts head e) list key
+  pub there : (e : Post) → head < length posts → IsFrontNumber (slice_index_or posts head e) list key
   pub past : length posts ≤ head → key ≡ NO_FRONT
 
 -- of n lists; at 0 stands any number
@@ -50,4 +50,4 @@ pub record IsTree (n : ℕ) (tree : List ℕ) : Type 0 where
 
 -- each list's own, in the order of the lists
 abbrev pub AreFronts : ℕ → List (List Post) → (ℕ → ℕ) → List ℕ → Type 0
-AreFronts n lists head tree = (k : ℕ) → k < n → IsFront (slice_index_or lists k []) (head k) k (slice_index tree (n + k))
+AreFronts n lists head tree = (k : ℕ) → k < n → IsFrontAt (slice_index_or lists k []) (head k) k (slice_index tree (n + k))

@@ -1,7 +1,7 @@
 //! The fronts of lists that are merged, as numbers in a tree whose root is the least of them.
 ghost use Rattle.std.specs.Prelude.{◌≡◌, ◌≢◌, ℕ, ◌+◌, ◌*◌, ◌%◌, ◌/◌, ◌<◌, ◌≤◌, length, map, min, slice_index, IfOk};
 ghost use Rattle.cs_base.specs.declared.content.doc.Post.{Post};
-ghost use Rattle.cs_meet.specs.Fronts.{AreFronts, IsFront, IsKeyOf, IsTree};
+ghost use Rattle.cs_meet.specs.Fronts.{AreFronts, IsFrontAt, IsFrontNumber, IsTree};
 
 use cs_base::{Memory, Post};
 use cs_cols::Cols;
@@ -25,7 +25,7 @@ pub(crate) fn first_fronts(alloc: Global, lists: &[Cols]) -> Result<Vec<u128>, M
 {
     let mut tree = vec![in alloc; NO_FRONT; 2 * lists.len()]?;
     for number in 0..lists.len() {
-        let front = front_of(&lists[number], 0, number);
+        let front = front_at(&lists[number], 0, number);
         put_front(&mut tree, lists.len(), number, front);
     }
     Ok(tree)
@@ -33,13 +33,13 @@ pub(crate) fn first_fronts(alloc: Global, lists: &[Cols]) -> Result<Vec<u128>, M
 
 /// The front of a list, of which so many posts are taken.
 #[inline]
-pub(crate) fn front_of(list: &Cols, head: usize, number: usize) -> u128
+pub(crate) fn front_at(list: &Cols, head: usize, number: usize) -> u128
     requires { number < MOST_LISTS }
 
-    ensures { IsFront list.now.posts head number result }
+    ensures { IsFrontAt list.now.posts head number result }
 {
     if head < list.len() {
-        key_of(list.get(head), number)
+        front_number(list.get(head), number)
     } else {
         NO_FRONT
     }
@@ -47,10 +47,10 @@ pub(crate) fn front_of(list: &Cols, head: usize, number: usize) -> u128
 
 // The number of a post at the front of a list.
 #[inline]
-fn key_of(post: Post, number: usize) -> u128
+fn front_number(post: Post, number: usize) -> u128
     requires { number < MOST_LISTS }
 
-    ensures { IsKeyOf post number result }
+    ensures { IsFrontNumber post number result }
 {
     let spot = u128::from(post.doc) * ROOM + u128::from(post.pos);
     let place = spot * ROOM + u128::from(post.word);
@@ -59,7 +59,7 @@ fn key_of(post: Post, number: usize) -> u128
 
 /// The number of the list that a front is of.
 #[inline]
-pub(crate) fn list_of(front: u128) -> usize
+pub(crate) fn list_of_front(front: u128) -> usize
     ensures { result ≡ front % ROOM }
 {
     (front % ROOM) as usize
@@ -67,7 +67,7 @@ pub(crate) fn list_of(front: u128) -> usize
 
 /// A number of the place of a front's post.
 #[inline]
-pub(crate) fn place_of(front: u128) -> u128
+pub(crate) fn place_of_front(front: u128) -> u128
     ensures { result ≡ front / ROOM }
 {
     front / ROOM

@@ -4,7 +4,7 @@ ghost use Rattle.std.specs.List.{All};
 ghost use Rattle.cs_base.specs.content.Orders.{AreSorted};
 ghost use Rattle.cs_meet.specs.Filters.{IsUnion};
 
-use crate::fronts::{MOST_LISTS, first_fronts, front_of, list_of, place_of, put_front};
+use crate::fronts::{MOST_LISTS, first_fronts, front_at, list_of_front, place_of_front, put_front};
 use crate::skip::add_where;
 use cs_base::Memory;
 use cs_cols::Cols;
@@ -30,16 +30,16 @@ pub fn unite(alloc: Global, lists: &[Cols]) -> Result<Cols, Memory>
     let mut heads = vec![in alloc; 0; lists.len()]?;
     let mut tree = first_fronts(alloc, lists)?;
     let mut next = 0;
-    let mut number = list_of(tree[1]);
+    let mut number = list_of_front(tree[1]);
     while number < lists.len() {
-        let place = place_of(tree[1]);
+        let place = place_of_front(tree[1]);
         let head = heads[number];
         add_where(&mut found, place >= next, lists[number].get(head));
         next = place + 1;
         heads[number] = head + 1;
-        let front = front_of(&lists[number], head + 1, number);
+        let front = front_at(&lists[number], head + 1, number);
         put_front(&mut tree, lists.len(), number, front);
-        number = list_of(tree[1]);
+        number = list_of_front(tree[1]);
     }
     Ok(found)
 }

@@ -18,7 +18,7 @@ loop-number-init c =
     record {
       merged = merged_first (length lists) (posts_in lists) c.in_ok-heads.heads.items c.in_ok-tree.tree.items c.in_ok-found.found.posts (c.in_ok-heads.ensures.items_if_clones_equal (λ y e. e))
           (omega (arith, c.in_ok-heads.ensures.len, c.in_ok-heads.heads.ok.0)) tree c.in_ok-tree.ensures.fronts c.in_ok-found.ensures.none;
-      number = c.list_of-number.ensures ∙ ap (λ r. r % ROOM) (c.index.ensures ∙ get_or_default_zero c.in_ok-tree.tree.items 1 c.index.result.now (omega (arith, len, some)));
+      number = c.list_of_front-number.ensures ∙ ap (λ r. r % ROOM) (c.index.ensures ∙ get_or_default_zero c.in_ok-tree.tree.items 1 c.index.result.now (omega (arith, len, some)));
       room = room_first lists c.in_ok-heads.heads.items c.in_ok-rows.rows c.in_ok-found.found.room (c.in_ok-heads.ensures.items_if_clones_equal (λ y e. e)) c.in_ok-rows.ensures c.in_ok-found.ensures.room;
     }
 
@@ -63,10 +63,10 @@ loop-number-preserved c =
       merged = rw c.add_where.ensures.posts
           (merged_next lists c.loop-number.heads.items c.loop-number.tree.items c.loop-number.found.posts c.loop-number.next c.loop-number.invariant.merged
           c.if-lists-gt-MOST_LISTS.false c.loop-number.number c.loop-number.invariant.number c.loop-number-test.true c.index-lists-number.result c.index-lists-number.is
-          c.index-head.result.now c.index-head.ensures c.requires c.get.result c.get.ensures c.index-in-loop-number.result.now c.place_of-place.result
-          c.index-in-loop-number.ensures c.place_of-place.ensures c.index-lists-number-in-loop-number.result c.index-lists-number-in-loop-number.is
-          c.put_front.new.tree.items c.front_of-front.result put.tree c.front_of-front.ensures put.put put.others);
-      number = c.list_of-number-in-loop-number.ensures ∙ ap (λ r. r % ROOM)
+          c.index-head.result.now c.index-head.ensures c.requires c.get.result c.get.ensures c.index-in-loop-number.result.now c.place_of_front-place.result
+          c.index-in-loop-number.ensures c.place_of_front-place.ensures c.index-lists-number-in-loop-number.result c.index-lists-number-in-loop-number.is
+          c.put_front.new.tree.items c.front_at-front.result put.tree c.front_at-front.ensures put.put put.others);
+      number = c.list_of_front-number-in-loop-number.ensures ∙ ap (λ r. r % ROOM)
           (c.index-in-loop-number-2.ensures
           ∙ get_or_default_zero c.put_front.new.tree.items 1 c.index-in-loop-number-2.result.now (omega (arith, len, c.loop-number-test.true)));
       room = omega (arith, less, room, added);
