@@ -5,7 +5,7 @@
 --   IsOfSecond r         a refusal that a second line may have, as it is said of line 2
 --   second_cause         each refusal of a second line is such a one
 --   only_last            the last entry of a list of one
-use Rattle.std.proofs.Common.{◌≡◌, ◌≢◌, ◌⊎◌, ℕ, ◌+◌, ◌<◌, ◌≤◌, Bool, true, false, not, ◌&&◌, nat_le, List, [], ◌∷◌, ◌++◌, length, map, filter, inl, inr, refl, sym, ap, subst, ◌∙◌, arith}
+use Rattle.std.proofs.Common.{◌≡◌, ◌≢◌, ◌⊎◌, ℕ, ◌+◌, ◌<◌, ◌≤◌, Bool, true, false, not, ◌&&◌, nat_le, List, [], ◌∷◌, ◌++◌, length, map, filter, inl, inr, refl, ap, subst, ◌∙◌, arith}
 use Rattle.std.specs.Prelude.{nat_lt, Option, Some, None}
 use Rattle.std.specs.List.{All, AllByRecursion, enumerate_from, list_any}
 use Rattle.std.specs.Str.{is_utf8}
@@ -20,7 +20,7 @@ use Rattle.cs_docs.specs.FaultRefusals.{IsCauseOf}
 use Rattle.cs_docs.specs.declared.fault.DocFault.{DocFault}
 use Rattle.cs_docs.specs.declared.fault.DocFault.TheVariants.{BadWeights, TooLarge, TooManyDocs}
 use Rattle.cs_model.proofs.FirstLemmas.{first-one}
-use Rattle.cs_model.specs.Collection.{CollectionRefusal, DocLine, bad_facet, bad_name, bad_weights, columns, doc_line, doc_lines, docs_refusal, document, documents, facet_pieces, has_name_form, is_equals, is_weights_line, line_refusal, line_too_long, not_utf8, piece_name, piece_refusal, too_large, too_many_docs, too_many_rows, too_many_words, weights_lines, weights_refusal, word_count, words_too_many}
+use Rattle.cs_model.specs.Collection.{CollectionRefusal, bad_facet, bad_name, bad_weights, columns, doc_line, doc_lines, docs_refusal, document, documents, facet_pieces, has_name_form, is_equals, is_weights_line, line_refusal, line_too_long, not_utf8, piece_name, piece_refusal, too_large, too_many_docs, weights_lines, weights_refusal, word_count, words_too_many}
 use Rattle.cs_model.specs.First.{first_reason, unless}
 use Rattle.cs_model.specs.Words.{is_filled}
 use Rattle.cs_model_live.specs.LiveLines.{second_line}

@@ -3,11 +3,12 @@
 --   line_seen l          what a line does
 --   broken r             the refusal of a second line that breaks the rule r
 --   IsLineRefusal o f      the fault f names the refusal o; want of memory names none, and may come with any
---   IsOnlyDocument d     d is all documents of a collection that isn't refused
+--   IsOnlyDocument w d   a collection of these weights, which isn't refused, has the document d and no other
 --   full_seen f          what there is no more room for
 use Rattle.std.specs.Prelude.{◌≡◌, ℕ, List, [], ◌∷◌, Option, Some, None}
 use Rattle.cs_base.specs.declared.content.doc.Doc.{Doc}
-use Rattle.cs_model.specs.Collection.{CollectionRefusal, not_utf8, line_too_long, words_too_many, bad_facet, bad_name, docs_refusal, documents}
+use Rattle.cs_base.specs.declared.content.scores.Weights.{Weights}
+use Rattle.cs_model.specs.Collection.{CollectionRefusal, not_utf8, line_too_long, words_too_many, bad_facet, bad_name, docs_refusal, documents, weights}
 use Rattle.cs_model_live.specs.LiveLines.{LiveLine, adds, asks, deletes}
 use Rattle.cs_model_live.specs.LiveStates.{Full, full_docs, full_rows, full_words}
 use Rattle.cs_live_lines.specs.declared.document.DocumentFault.{DocumentFault}
@@ -38,9 +39,12 @@ abbrev pub IsLineRefusal : Option CollectionRefusal → DocumentFault → Type 0
 IsLineRefusal o (Broken r) = o ≡ Some (broken r)
 IsLineRefusal o Memory = Unit {0}
 
--- one collection has this document and no other
-abbrev pub IsOnlyDocument : Doc → Type 0
-IsOnlyDocument d = (c : List ℕ) × (docs_refusal c ≡ None) × (documents c ≡ d ∷ [])
+-- no rule refuses it
+pub record IsOnlyDocument (w : Weights) (d : Doc) : Type 0 where
+  pub collection : List ℕ
+  pub accepted : docs_refusal collection ≡ None
+  pub weights : weights collection ≡ w
+  pub documents : documents collection ≡ d ∷ []
 
 -- variant by variant
 abbrev pub full_seen : Lacking → Full

@@ -1,9 +1,11 @@
 //! The document of a line that adds one.
-ghost use Rattle.std.specs.Prelude.{◌≡◌, ◌≢◌, ◌<◌, ℕ, List, [], ◌∷◌, ◌++◌, All, None, IfOk, IfErr, OnOk, OnErr, length};
+ghost use Rattle.std.specs.Prelude.{◌≡◌, ◌≢◌, ◌≤◌, ℕ, List, [], ◌∷◌, ◌++◌, All, None, IfOk, IfErr, OnOk, OnErr, length};
 ghost use Rattle.cs_base.specs.content.Bytes.{line_feed};
-ghost use Rattle.cs_base.specs.declared.content.limits.TheConstants.{MAX_COLLECTION_BYTES};
+ghost use Rattle.cs_base.specs.declared.content.limits.TheConstants.{MAX_SCRIPT_LINE_BYTES};
+ghost use Rattle.cs_base.specs.declared.content.scores.Weights.{Weights};
 ghost use Rattle.cs_docs.specs.FaultRefusals.{IsCauseOf};
 ghost use Rattle.cs_model.specs.Collection.{document, line_refusal};
+ghost use Rattle.cs_model.specs.Weights.{AreWeights};
 ghost use Rattle.cs_model_live.specs.LiveLines.{second_line};
 ghost use Rattle.cs_live_lines.specs.LineViews.{IsOnlyDocument, IsLineRefusal};
 ghost use Rattle.cs_live_lines.specs.declared.document.DocumentFault.{DocumentFault};
@@ -48,11 +50,11 @@ impl From<Memory> for DocumentFault {
 pub fn added_document(alloc: Global, line: &[u8]) -> Result<Doc, DocumentFault>
     requires filled { line.now ≢ [] }
     requires one { All (λ b. b ≢ line_feed) line.now }
-    requires short { length line.now < MAX_COLLECTION_BYTES }
+    requires short { length line.now ≤ MAX_SCRIPT_LINE_BYTES }
 
     ensures ok { IfOk result (λ d. d ≡ document (second_line line.now)) }
     ensures accepted { OnOk result (line_refusal (second_line line.now) ≡ None) }
-    ensures read { IfOk result IsOnlyDocument }
+    ensures read { IfOk result (λ d. (w : Weights) → AreWeights w → IsOnlyDocument w d) }
     ensures err { IfErr result (IsLineRefusal (line_refusal (second_line line.now))) }
 {
     let collection = behind_empty_line(alloc, line)?;
