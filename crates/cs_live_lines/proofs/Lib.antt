@@ -1,0 +1,3 @@
+pub mod OutcomeLines
+pub mod SecondLines
+pub mod WeightedLines
