@@ -6,9 +6,9 @@ use Rattle.cs_hub.proofs.TurnLemmas.{delivered_by}
 use Rattle.cs_hub.proofs.saying.deliver.Goals as goal
 use Rattle.cs_hub.proofs.saying.deliver.Goals.{then-say, else-say}
 
-pub returns-after-say-clause-delivered : goal.returns-after-say-clause-delivered
-returns-after-say-clause-delivered g c =
-    let a = c.args.answer.now in
+pub returns-after-say-clause-sent : goal.returns-after-say-clause-sent
+returns-after-say-clause-sent g c =
+    let a = c.in_ok-answer.answer in
     let talk = g.H.Hub.talk c.args.hub.now in
     let told = g.H.Hub.talk c.say.new.hub in
     let goes : c.if-say.result ≡ (c.say.result && not a.close) =
