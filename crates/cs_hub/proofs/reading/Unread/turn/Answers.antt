@@ -8,8 +8,30 @@ use Rattle.cs_hub.proofs.TurnLemmas.{found_more, found_long, replied_by, starves
 use Rattle.cs_hub.proofs.AskedLemmas.{SentFor, asks_sent, sent_open, starved_stops, turned_head as asked_head, turned_long as asked_long, turned_held as asked_held}
 use Rattle.cs_hub.proofs.reading.Unread.turn.Goals as goal
 
-pub returns-in-Head-clause-turned : goal.returns-in-Head-clause-turned
-returns-in-Head-clause-turned g c =
+pub slice_bounds-answer_head-count : goal.slice_bounds-answer_head-count
+slice_bounds-answer_head-count g c =
+    let held : c.len-held.result ≡ length c.args.self.now = omega (arith, c.len-held.ensures, c.self.inside.unread.ok, ap length c.self.view_is) in
+    let span = span_of c.args.self.now c.args.rest.now c.len-held.result c.in-Head.skip c.in-Head.end c.in-Head.ensures.found c.in-Head.ensures.placed held in
+    let used = c.in-Head.end - c.len-held.result in
+    let all : c.as_slice.result.now ≡ c.args.self.now ++ take used c.args.rest.now = grind (arith, common_steps) in
+    let front = span_front c.args.self.now c.args.rest.now c.in-Head.skip c.in-Head.end used span in
+    omega (arith, front, ap length all)
+
+pub slice_bounds-answer_head-start : goal.slice_bounds-answer_head-start
+slice_bounds-answer_head-start g c =
+    let held : c.len-held.result ≡ length c.args.self.now = omega (arith, c.len-held.ensures, c.self.inside.unread.ok, ap length c.self.view_is) in
+    let span = span_of c.args.self.now c.args.rest.now c.len-held.result c.in-Head.skip c.in-Head.end c.in-Head.ensures.found c.in-Head.ensures.placed held in
+    let used = c.in-Head.end - c.len-held.result in
+    let all : c.as_slice.result.now ≡ c.args.self.now ++ take used c.args.rest.now = grind (arith, common_steps) in
+    let front = span_front c.args.self.now c.args.rest.now c.in-Head.skip c.in-Head.end used span in
+    omega (arith, front, ap length all)
+
+pub invariant_of-self-in-Head : goal.invariant_of-self-in-Head
+invariant_of-self-in-Head g c =
+    open_none c.clear.new.self.items c.nothing-self-inside.result c.clear.ensures.items c.nothing-self-inside.ensures.seen c.nothing-self-inside.ensures.few
+
+pub returns-else-is_err-clause-turned : goal.returns-else-is_err-clause-turned
+returns-else-is_err-clause-turned g c =
     let held : c.len-held.result ≡ length c.args.self.now = omega (arith, c.len-held.ensures, c.self.inside.unread.ok, ap length c.self.view_is) in
     let span = span_of c.args.self.now c.args.rest.now c.len-held.result c.in-Head.skip c.in-Head.end c.in-Head.ensures.found c.in-Head.ensures.placed held in
     let used = c.in-Head.end - c.len-held.result in
@@ -25,8 +47,8 @@ returns-in-Head-clause-turned g c =
     (replied_by over c.args.conn _ (slice_range full c.in-Head.skip (length full)) c.answer_head-answer.result c.deliver-goes.result before after talk told
     (ap (λ l. slice_range l c.in-Head.skip (length l)) all) c.answer_head-answer.ensures.ok c.deliver-goes.ensures.sent)
 
-pub returns-in-Head-clause-asked : goal.returns-in-Head-clause-asked
-returns-in-Head-clause-asked g c =
+pub returns-else-is_err-clause-asked : goal.returns-else-is_err-clause-asked
+returns-else-is_err-clause-asked g c =
     let held : c.len-held.result ≡ length c.args.self.now = omega (arith, c.len-held.ensures, c.self.inside.unread.ok, ap length c.self.view_is) in
     let span = span_of c.args.self.now c.args.rest.now c.len-held.result c.in-Head.skip c.in-Head.end c.in-Head.ensures.found c.in-Head.ensures.placed held in
     let used = c.in-Head.end - c.len-held.result in
@@ -45,13 +67,13 @@ returns-in-Head-clause-asked g c =
     (asks_sent g.A.Answerer.leaves c.args.conn c.answer_head-answer.result c.deliver-goes.result _ s t talk told c.answer_head-answer.ensures.close
     c.deliver-goes.ensures.sent c.answer_head-answer.ensures.asked))
 
-pub returns-in-Head-then-is_err-clause-turned : goal.returns-in-Head-then-is_err-clause-turned
-returns-in-Head-then-is_err-clause-turned g c =
+pub returns-then-is_err-clause-turned : goal.returns-then-is_err-clause-turned
+returns-then-is_err-clause-turned g c =
     starves (g.A.Answerer.answers c.args.answerer.now) c.args.conn (c.args.self.now ++ c.args.rest.now) (g.A.Answerer.faults c.args.answerer.now)
     (g.A.Answerer.faults c.args.answerer.now) (g.H.Hub.talk c.args.hub.now) (g.H.Hub.talk c.starve.new.hub) (omega arith) c.starve.ensures.starved
 
-pub returns-in-Head-then-is_err-clause-asked : goal.returns-in-Head-then-is_err-clause-asked
-returns-in-Head-then-is_err-clause-asked g c =
+pub returns-then-is_err-clause-asked : goal.returns-then-is_err-clause-asked
+returns-then-is_err-clause-asked g c =
     starved_stops g.A.Answerer.leaves c.args.conn (c.args.self.now ++ c.args.rest.now) (g.A.Answerer.kept c.args.answerer.now) (g.H.Hub.talk c.args.hub.now)
     (g.H.Hub.talk c.starve.new.hub) c.starve.ensures.starved
 
