@@ -33,7 +33,7 @@ use Rattle.cs_engine.specs.IndexReading.{AreWithin, IsWithin, HasRows}
 use Rattle.cs_engine.specs.Sources.{IsSource, SourceView, seen}
 use Rattle.cs_engine.specs.Steps.{AreFound, IsBaseOf, IsHitOf}
 use Rattle.cs_model_index.specs.Numbered.{rows_at}
-use Rattle.cs_engine.specs.Stocked.{Stock, corpus_in, base_docs, docs_in, facet_at, base_hits, named_rows, present_docs, shown_at, title_at}
+use Rattle.cs_engine.specs.Stocked.{Stock, corpus_in, base_docs, stock_docs, facet_at, base_hits, named_rows, present_docs, shown_at, title_at}
 use Rattle.cs_engine.proofs.FoundLemmas.{docs_rise}
 use Rattle.cs_engine.proofs.ReplyLemmas.{facet_kept, first_there, reply_made, table_total, words_shown}
 use Rattle.cs_engine.proofs.PartSteps.{listed_in, listed_told}
@@ -135,8 +135,8 @@ module _ (b : List ℕ) (v : SourceView) (stands : StandsFor b v.index) (is : Is
   reply_told r hits posts found w c f h tc th all c_is f_is h_is tc_is th_is are =
       let k = corpus_in s in
       let ps = parts_of k r.query in
-      let here : all ≡ base_hits (docs_in s) hits = are ∙ ap (λ ds. base_hits ds hits) (is.told b stands).docs in
-      let lists : base_hits (docs_in s) hits ≡ scored_hits k ps = listed_told s hits ∙ ap (kept.listed k) found.base
+      let here : all ≡ base_hits (stock_docs s) hits = are ∙ ap (λ ds. base_hits ds hits) (is.told b stands).docs in
+      let lists : base_hits (stock_docs s) hits ≡ scored_hits k ps = listed_told s hits ∙ ap (kept.listed k) found.base
       ∙ listed_base k ps in
       reply_made s (is.told b stands).stocked ps hits posts lists found.rows r refl c f h tc th
       c_is f_is (h_is ∙ ap (λ hs. map (hit_shown k) (take r.hits (drop r.offset (members_in by_rank hs)))) here)

@@ -46,7 +46,7 @@ use Rattle.cs_model_kept.proofs.EntryLemmas.{ends_more, extended_is, hits_are, l
 use Rattle.cs_engine.specs.IndexReading.{AreWithin, HasRows}
 use Rattle.cs_engine.specs.Steps.{IsStep, docs_after, posts_hits}
 use Rattle.cs_model_index.specs.Numbered.{rows_at}
-use Rattle.cs_engine.specs.Stocked.{Stock, corpus_in, base_docs, base_hits, docs_in, linked_posts, IsKnown, IsPicked, IsStocked}
+use Rattle.cs_engine.specs.Stocked.{Stock, corpus_in, base_docs, base_hits, stock_docs, linked_posts, IsKnown, IsPicked, IsStocked}
 use Rattle.cs_engine.proofs.AtomsLemmas.{picked_again}
 use Rattle.cs_engine.proofs.RowsInRange.{kept_within}
 use Rattle.cs_engine.proofs.FoldsLemmas.{part_rows-is}
@@ -126,7 +126,7 @@ hits_by s ps positive e ends is = hits_told s.words positive e ∙ ap (λ b. kep
     ∙ ap (kept.hits_of (kept.ends_positive ps)) is ∙ hits_are (corpus_in s) ps
 
 -- and their documents
-pub docs_by : (s : Stock) (ds : List ℕ) (ps : List PartRows) (b : Base) → ds ≡ docs_in s → b ≡ base_of (corpus_in s) ps
+pub docs_by : (s : Stock) (ds : List ℕ) (ps : List PartRows) (b : Base) → ds ≡ stock_docs s → b ≡ base_of (corpus_in s) ps
     → base_docs ds b ≡ hits (corpus_in s) ps
 docs_by s ds ps b same is =
     ap (map (λ h. h.doc)) (ap (λ xs. base_hits xs b) same ∙ listed_told s b ∙ ap (kept.listed (corpus_in s)) is ∙ listed_base (corpus_in s) ps)
@@ -262,10 +262,10 @@ module _ (s : Stock) (ps : List Part) where
   abbrev pub DocsSoFar : List ℕ → ℕ → Base → Type 0
   DocsSoFar ds i b = base_docs ds b ≡ hits kd (map (rows_of_part kd) (take i ps))
 
-  pub docs_begin : (ds : List ℕ) → ds ≡ docs_in s → DocsSoFar ds 0 base.All
+  pub docs_begin : (ds : List ℕ) → ds ≡ stock_docs s → DocsSoFar ds 0 base.All
   docs_begin ds same = docs_by s ds [] base.All same refl
 
-  pub docs_go_on : IsStocked s → (ds : List ℕ) → ds ≡ docs_in s → (i : ℕ) (x : Part) → i < length ps → x ≡ get_or ps i x → (was now : Base) (posts : List Post)
+  pub docs_go_on : IsStocked s → (ds : List ℕ) → ds ≡ stock_docs s → (i : ℕ) (x : Part) → i < length ps → x ≡ get_or ps i x → (was now : Base) (posts : List Post)
       → DocsSoFar ds i was → HasRows s (rows_of_part kd x).rows posts → base_docs ds now ≡ docs_after ds was (out-Part x).excluded posts
       → DocsSoFar ds (i + 1) now
   docs_go_on stocked ds same i x l at was now posts so_far has is =

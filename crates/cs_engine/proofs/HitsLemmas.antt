@@ -30,7 +30,7 @@ use Rattle.cs_model.specs.Corpus.{Corpus}
 use Rattle.cs_rank.specs.DocScores.{greatest}
 use Rattle.cs_model_index.specs.Numbered.{row_of, rows_at}
 use Rattle.cs_model_kept.specs.Entries.{scored_hits}
-use Rattle.cs_engine.specs.Stocked.{Stock, corpus_in, base_hits, base_docs, docs_in}
+use Rattle.cs_engine.specs.Stocked.{Stock, corpus_in, base_hits, base_docs, stock_docs}
 
 -- ---- one more part
 
@@ -126,6 +126,6 @@ module _ (s : Stock) (done : List PartRows) (p : PartRows) (posts : List Post) (
       ∙ filter_through (row_of s.words) (λ r. is_listed now r.doc) posts
       ∙ ap (filter (λ r. is_listed now r.doc)) (is ∙ sym (last_more done p ∙ ap (λ b. if b then [] else p.rows) e))
 
-  module _ (b : Base) (lists : base_hits (docs_in s) b ≡ scored_hits k done) where
-    pub listed_docs : base_docs (docs_in s) b ≡ ds
+  module _ (b : Base) (lists : base_hits (stock_docs s) b ≡ scored_hits k done) where
+    pub listed_docs : base_docs (stock_docs s) b ≡ ds
     listed_docs = ap (map (λ h. h.doc)) lists ∙ own_docs (scored done) (λ d. refl) ds

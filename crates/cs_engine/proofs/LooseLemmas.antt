@@ -27,7 +27,7 @@ use Rattle.cs_engine.specs.Loose.{AreCountsFor, AreLastWords, IsEntryByWords, Is
 use Rattle.cs_engine.specs.IndexReading.{AreWithin}
 use Rattle.cs_engine.specs.Sources.{IsSource, SourceView, seen}
 use Rattle.cs_engine.specs.Steps.{EntryFits, last_is_positive}
-use Rattle.cs_engine.specs.Stocked.{corpus_in, is_between, posts_in}
+use Rattle.cs_engine.specs.Stocked.{corpus_in, is_between, base_posts}
 use Rattle.cs_engine.proofs.OverSources.{source_within}
 use Rattle.cs_engine.proofs.KeepingLemmas.{fresh_is}
 use Rattle.cs_engine.proofs.PackingLemmas.{AreAlike}
@@ -71,12 +71,12 @@ module _ (v : SourceView) (q : Query) (hits : Base) (lo hi : ℕ) (asks : AreLas
 pub found_counts : (v : SourceView) (q : Query) (hits : Base) (lo hi : ℕ) → AreLastWords (seen v) q hits lo hi → (b : List ℕ) → StandsFor b v.index
     → IsSource v
     → IsEntryByWords b v q hits lo hi → (found : Base) (t : WordCountsView)
-    → HasFound hits (posts_in hits (filter (is_between lo hi) (v.stock b).posts)) found t → AreCountsFor v b q found t
+    → HasFound hits (base_posts hits (filter (is_between lo hi) (v.stock b).posts)) found t → AreCountsFor v b q found t
 found_counts v q hits lo hi asks b stands is by found t f =
     let posts = filter (is_between lo hi) (v.stock b).posts in
     record {
-      posts = posts_in hits posts;
-      found = found_by_entry v q (entry_with hits (posts_in hits posts)) true (sym asks.positive) found f.hits_are b stands is by;
+      posts = base_posts hits posts;
+      found = found_by_entry v q (entry_with hits (base_posts hits posts)) true (sym asks.positive) found f.hits_are b stands is by;
       within = in_base_within (seen v) hits posts (kept_within (seen v) (is_between lo hi) (v.stock b).posts (source_within b v stands is));
       table = f.table;
     }

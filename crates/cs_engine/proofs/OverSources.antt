@@ -30,7 +30,7 @@ use Rattle.cs_tables.proofs.WordCountsLemmas.{front_countable}
 use Rattle.cs_engine.specs.Counting.{AreListed, counted_rows, in_listed}
 use Rattle.cs_engine.specs.IndexReading.{AreWithin, IsWithin, by_post}
 use Rattle.cs_engine.specs.Sources.{IsSource, SourceView, is_there, all_rows, seen}
-use Rattle.cs_engine.specs.Stocked.{IsKnown, is_between, posts_in, present_docs}
+use Rattle.cs_engine.specs.Stocked.{IsKnown, is_between, base_posts, present_docs}
 use Rattle.cs_engine.proofs.AlikeLemmas.{any_filter, table_alike}
 use Rattle.cs_engine.proofs.CountingLemmas.{flat_more, kept_listed}
 use Rattle.cs_engine.proofs.PresentLemmas.{is_present, is_titled, posts_are_in, present_below}
@@ -135,7 +135,7 @@ module _ (b : List ℕ) (v : SourceView) (stands : StandsFor b v.index) (is : Is
   -- ---- listed documents
   -- the rows of some words in the documents that a base lists
   pub listed_asked : (lo hi : ℕ) (hits : Base) (listed : List Bool) → AreListed v.present hits listed
-      → filter (in_listed listed) (filter (is_between lo hi) (v.stock b).posts) ≡ posts_in hits (filter (is_between lo hi) (v.stock b).posts)
+      → filter (in_listed listed) (filter (is_between lo hi) (v.stock b).posts) ≡ base_posts hits (filter (is_between lo hi) (v.stock b).posts)
   listed_asked lo hi hits listed has =
       let asked = filter (is_between lo hi) posts in
       let told = is.told b stands in

@@ -42,7 +42,7 @@ use Rattle.cs_rank.specs.DocScores.{IsBase, best_row, greatest, of_doc, doc_scor
 use Rattle.cs_engine.specs.IndexReading.{AreWithin, HasRows, IsWithin}
 use Rattle.cs_engine.specs.Steps.{docs_after, posts_hits, posts_after, with_no_score, IsHitOf, IsBaseOf, EntryFits, IsStep, is_in_base}
 use Rattle.cs_model_index.specs.Numbered.{row_of, rows_at}
-use Rattle.cs_engine.specs.Stocked.{IsKnown, IsStocked, Stock, corpus_in, docs_in, every, base_hits, base_docs, posts_in}
+use Rattle.cs_engine.specs.Stocked.{IsKnown, IsStocked, Stock, corpus_in, stock_docs, every, base_hits, base_docs, base_posts}
 use Rattle.cs_engine.proofs.FoundLemmas.{docs_rise, scored_rise, found_small, greatest_small}
 use Rattle.cs_engine.proofs.HitsLemmas.{ds_rise, greatest_of, hits_excluded, hits_positive, kept_docs, own_docs}
 use Rattle.cs_engine.proofs.PresentLemmas.{every_ascends, is_titled, posts_are_in}
@@ -125,19 +125,19 @@ pub hits_told : (ws : List (List ℕ)) (positive : Bool) (e : EntryOf Post) → 
 hits_told ws true e = ap base.Listed (over_told ws e.base e.rows)
 hits_told ws false e = refl
 
-pub listed_told : (s : Stock) (b : Base) → base_hits (docs_in s) b ≡ kept.listed (corpus_in s) b
+pub listed_told : (s : Stock) (b : Base) → base_hits (stock_docs s) b ≡ kept.listed (corpus_in s) b
 listed_told s base.All = refl
 listed_told s (base.Listed hs) = refl
 
 -- posts of a stock are of its documents
-pub kept_posts : (s : Stock) → IsStocked s → {rows : List Row} {posts : List Post} → HasRows s rows posts → (ds : List ℕ) → ds ≡ docs_in s → (b : Base)
-    → posts_in b posts ≡ keep_docs posts (base_docs ds b)
+pub kept_posts : (s : Stock) → IsStocked s → {rows : List Row} {posts : List Post} → HasRows s rows posts → (ds : List ℕ) → ds ≡ stock_docs s → (b : Base)
+    → base_posts b posts ≡ keep_docs posts (base_docs ds b)
 kept_posts s stocked {rows} {posts} has ds same b =
     posts_are_in ds b posts (all_then (IsKnown s) (λ p. is_listed ds p.doc ≡ true)
     (λ p h. ap (λ xs. is_listed xs p.doc) same ∙ is_titled s.titles p.doc ∙ h.doc) posts (picked_known s posts stocked has.picked.among))
 
 -- ---- the entry behind a part
-module _ (s : Stock) (stocked : IsStocked s) (ds : List ℕ) (same : ds ≡ docs_in s) (b : Base) (p : PartRows) (posts : List Post) (has : HasRows s p.rows posts) where
+module _ (s : Stock) (stocked : IsStocked s) (ds : List ℕ) (same : ds ≡ stock_docs s) (b : Base) (p : PartRows) (posts : List Post) (has : HasRows s p.rows posts) where
   abbrev outs : List Scored
   outs = kept.listed (corpus_in s) b
 
@@ -150,7 +150,7 @@ module _ (s : Stock) (stocked : IsStocked s) (ds : List ℕ) (same : ds ≡ docs
       ∙ filter_alike (λ h. not (list_any (is_of h) posts)) (λ h. not (list_any (in_doc h.doc) p.rows)) outs
       (all_of _ (λ h. ap not (sym (any_through (row_of s.words) (in_doc h.doc) posts) ∙ ap (list_any (in_doc h.doc)) has.is)) outs)
 
-  kept_told : rows_at s.words (posts_in b posts) ≡ filter (is_hit outs) p.rows
+  kept_told : rows_at s.words (base_posts b posts) ≡ filter (is_hit outs) p.rows
   kept_told =
       ap (rows_at s.words) (kept_posts s stocked has ds same b)
       ∙ ap (λ l. rows_at s.words (keep_docs posts (map (λ h. h.doc) l))) listed_by
@@ -173,14 +173,14 @@ module _ (s : Stock) (stocked : IsStocked s) (ds : List ℕ) (same : ds ≡ docs
       own base.All = refl
       own (base.Listed l) = refl
 
-in_hits : (b : Base) (posts : List Post) → All (λ p. is_in_base b p ≡ true) (posts_in b posts)
+in_hits : (b : Base) (posts : List Post) → All (λ p. is_in_base b p ≡ true) (base_posts b posts)
 in_hits base.All posts = λ k d l. refl
 in_hits (base.Listed hs) posts = λ k d l.
     let docs = map (λ (h : Scored). h.doc) hs in
     sym (any_through (λ (h : Scored). h.doc) (meet.is_of_doc (get_or (keep_docs posts docs) k d)) hs)
     ∙ filter_passes (λ r. list_any (meet.is_of_doc r) docs) posts k d l
 
-pub in_base_within : (i : IndexView) (b : Base) (posts : List Post) → AreWithin i posts → AreWithin i (posts_in b posts)
+pub in_base_within : (i : IndexView) (b : Base) (posts : List Post) → AreWithin i posts → AreWithin i (base_posts b posts)
 in_base_within i base.All posts w = w
 in_base_within i (base.Listed hs) posts w = kept_within i (λ r. list_any (meet.is_of_doc r) (map (λ h. h.doc) hs)) posts w
 
@@ -211,7 +211,7 @@ pub record AreHitsBehind (s : Stock) (hits : Base) (p : PartRows) (next : Base) 
   pub are : next ≡ posts_hits (not p.excluded) e.base e.rows
 
 -- ---- hits without their scores
-module _ (s : Stock) (stocked : IsStocked s) (ds : List ℕ) (same : ds ≡ docs_in s) (done : List PartRows) (p : PartRows) (posts : List Post)
+module _ (s : Stock) (stocked : IsStocked s) (ds : List ℕ) (same : ds ≡ stock_docs s) (done : List PartRows) (p : PartRows) (posts : List Post)
     (has : HasRows s p.rows posts) (b : Base) (lists : base_docs ds b ≡ hits (corpus_in s) done) where
   dropped_docs : map (λ h. h.doc) (drop_docs (base_hits ds b) posts) ≡ filter (λ d. not (list_any (in_doc d) (rows_at s.words posts))) (base_docs ds b)
   dropped_docs =

@@ -41,7 +41,7 @@ use Rattle.cs_engine.specs.IndexReading.{AreWithin, HasRows, IsSpanOf}
 use Rattle.cs_engine.specs.Keeping.{entry_with}
 use Rattle.cs_engine.specs.Steps.{EntryFits, IsBaseOf, is_in_base}
 use Rattle.cs_engine.specs.Sources.{IsSource, SourceView, met_in}
-use Rattle.cs_engine.specs.Stocked.{HoldsBetween, corpus_in, is_between, posts_in}
+use Rattle.cs_engine.specs.Stocked.{HoldsBetween, corpus_in, is_between, base_posts}
 use Rattle.cs_engine.proofs.AlternativesLemmas.{lists_begin, lists_end, lists_go_on, ordered_itself}
 use Rattle.cs_engine.proofs.EvaluationLemmas.{joined_reads, met_part-is}
 use Rattle.cs_engine.proofs.OverSources.{listed_asked}
@@ -142,7 +142,7 @@ part_words v is p c chains are one (Some w) h =
 module _ (v : SourceView) (hits : Base) (listed : List Bool) (has : AreListed v.present hits listed) where
   pub listed_entry : (b : List ℕ) → StandsFor b v.index → IsSource v → (lo hi : ℕ) (rows : List Post)
       → rows ≡ filter (in_listed listed) (filter (is_between lo hi) (v.stock b).posts)
-      → entry_with hits rows ≡ entry_with hits (posts_in hits (filter (is_between lo hi) (v.stock b).posts))
+      → entry_with hits rows ≡ entry_with hits (base_posts hits (filter (is_between lo hi) (v.stock b).posts))
   listed_entry b stands is lo hi rows are = ap (entry_with hits) (are ∙ listed_asked b v stands is lo hi hits listed has)
 
 module _ (i : IndexView) (present : List Bool) (long : length present ≡ i.docs) (hits : Base) (listed : List Bool) (has : AreListed present hits listed) where

@@ -27,7 +27,7 @@ use Rattle.cs_base.proofs.ListsLemmas.{all_stay, and_true, any_tie, filter_alike
 use Rattle.cs_meet.specs.Filters.{is_of_doc, keep_docs}
 use Rattle.cs_model.specs.Answers.{is_listed}
 use Rattle.cs_engine.specs.Steps.{with_no_score}
-use Rattle.cs_engine.specs.Stocked.{base_docs, every, posts_in, present_docs}
+use Rattle.cs_engine.specs.Stocked.{base_docs, every, base_posts, present_docs}
 use Rattle.cs_engine.proofs.FoundLemmas.{scored_rise, stays}
 use Rattle.cs_engine.proofs.HitsLemmas.{own_docs}
 use Rattle.cs_engine.proofs.ListedLemmas.{range_below, range_rises}
@@ -139,7 +139,7 @@ is_titled m d = sym (any_tie d (keys m)) ∙ sym (contains_key-keys m d)
 
 -- ---- posts of theirs
 pub posts_are_in : (ds : List ℕ) (b : Base) (posts : List Post) → AllByRecursion (λ p. is_listed ds p.doc ≡ true) posts
-    → posts_in b posts ≡ keep_docs posts (base_docs ds b)
+    → base_posts b posts ≡ keep_docs posts (base_docs ds b)
 posts_are_in ds base.All posts known =
     sym (ap (keep_docs posts) (own_docs with_no_score (λ d. refl) ds) ∙ stays (λ r. list_any (is_of_doc r) ds) posts known)
 posts_are_in ds (base.Listed hs) posts known = refl

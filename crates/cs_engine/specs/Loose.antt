@@ -26,7 +26,7 @@ use Rattle.cs_engine.specs.Keeping.{IsEntryOver, entry_with}
 use Rattle.cs_engine.specs.IndexReading.{AreWithin}
 use Rattle.cs_engine.specs.Sources.{SourceView, seen}
 use Rattle.cs_engine.specs.Steps.{AreFound, IsBaseOf, last_is_positive}
-use Rattle.cs_engine.specs.Stocked.{corpus_in, is_between, posts_in}
+use Rattle.cs_engine.specs.Stocked.{corpus_in, is_between, base_posts}
 
 -- 0 where the document has no row
 abbrev pub best_of : List Post → ℕ → ℕ
@@ -52,7 +52,7 @@ pub record AreLastWords (i : IndexView) (q : Query) (hits : Base) (lo hi : ℕ) 
 -- its base are the hits, and its rows are those of these words in them
 abbrev pub IsEntryByWords : List ℕ → SourceView → Query → Base → ℕ → ℕ → Type 0
 IsEntryByWords b v q hits lo hi =
-    IsEntryOver (corpus_in (v.stock b)) (seen v) q (entry_with hits (posts_in hits (filter (is_between lo hi) (v.stock b).posts)))
+    IsEntryOver (corpus_in (v.stock b)) (seen v) q (entry_with hits (base_posts hits (filter (is_between lo hi) (v.stock b).posts)))
 
 -- of posts that stand for the pairs, in order
 pub record IsTableFor (v : SourceView) (b : List ℕ) (q : Query) (cut : ℕ) (hits : Base) (t : Table) : Type 0 where

@@ -31,7 +31,7 @@ use Rattle.cs_vocab.specs.Ranges.{IsRange}
 use Rattle.cs_engine.specs.Asking.{division}
 use Rattle.cs_engine.specs.Counting.{counted_rows}
 use Rattle.cs_engine.specs.IndexReading.{IsSpanOf, stock_of}
-use Rattle.cs_engine.specs.Stocked.{IsStocked, Stock, docs_in, is_between, present_docs}
+use Rattle.cs_engine.specs.Stocked.{IsStocked, Stock, stock_docs, is_between, present_docs}
 
 -- an index without rows in memory has as many words before one as the word's number says
 pub record SourceView : Type 0 where
@@ -91,7 +91,7 @@ pub record IsIn (v : SourceView) (p : Post) : Type 0 where
 -- rows in blocks; and rows of blocks and memory can be counted together
 pub record IsTold (v : SourceView) (b : List ℕ) : Type 0 where
   pub stocked : IsStocked (v.stock b)
-  pub docs : present_docs v.present ≡ docs_in (v.stock b)
+  pub docs : present_docs v.present ≡ stock_docs (v.stock b)
   pub words : v.words ≡ (v.stock b).words
   pub count : length (v.blocks b) ≡ length v.index.heads
   pub alike : (t : Post → Bool) → list_any t (all_rows v b) ≡ list_any t (v.stock b).posts

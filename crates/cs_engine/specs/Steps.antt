@@ -34,7 +34,7 @@ use Rattle.cs_model_kept.specs.Entries as kept
 use Rattle.cs_rank.specs.DocScores.{doc_scores}
 use Rattle.cs_engine.specs.IndexReading.{AreWithin}
 use Rattle.cs_model_index.specs.Numbered.{rows_at}
-use Rattle.cs_engine.specs.Stocked.{Stock, base_hits, corpus_in, posts_in}
+use Rattle.cs_engine.specs.Stocked.{Stock, base_hits, corpus_in, base_posts}
 
 -- its posts over its base where the last part is positive, and else the base
 abbrev pub posts_hits : Bool → Base → List Post → Base
@@ -43,7 +43,7 @@ posts_hits positive b posts = if positive then base.Listed (doc_scores b posts) 
 -- an excluded part takes hits away and leaves no posts, and a positive one leaves its posts in the hits
 abbrev pub posts_after : List ℕ → Base → Bool → List Post → EntryOf Post
 posts_after ds hits excluded posts = if excluded then record { base = base.Listed (drop_docs (base_hits ds hits) posts); rows = [] }
-    else record { base = hits; rows = posts_in hits posts }
+    else record { base = hits; rows = base_posts hits posts }
 
 -- as of a query without a positive part
 abbrev pub with_no_score : ℕ → Scored
@@ -51,7 +51,7 @@ with_no_score d = record { doc = d; score = 0 }
 
 -- those without a post where the part is excluded, and those with one where it isn't
 abbrev pub docs_after : List ℕ → Base → Bool → List Post → List ℕ
-docs_after ds hits excluded posts = if excluded then map (λ h. h.doc) (drop_docs (base_hits ds hits) posts) else docs_of (posts_in hits posts)
+docs_after ds hits excluded posts = if excluded then map (λ h. h.doc) (drop_docs (base_hits ds hits) posts) else docs_of (base_posts hits posts)
 
 -- the document is below docs, and the score at most the bound
 pub record IsHitOf (docs bound : ℕ) (h : Scored) : Type 0 where

@@ -4,7 +4,7 @@
 --
 --   Stock                  titles by document number, words and posts
 --   corpus_in s            the corpus of a stock
---   docs_in s              the numbers of its documents
+--   stock_docs s              the numbers of its documents
 --   present_docs present   the numbers that are those of documents
 --   IsKnown s p            the post's document and word are there
 --   IsStocked s            what always holds of what is read of an index
@@ -16,7 +16,7 @@
 --   every ds               documents, each with the score 0
 --   base_hits ds base      the documents that a base lists, of the documents ds, with their scores
 --   base_docs ds base      their numbers
---   posts_in base posts    the posts of the documents that a base lists
+--   base_posts base posts  the posts of the documents that a base lists
 --   named_at ws c          a completion with its word in place of the word's number
 --   shown_at ws c          it as it is shown
 --   title_at titles d      the title of document d; the empty text where there is none
@@ -60,8 +60,8 @@ abbrev pub corpus_in : Stock → Corpus
 corpus_in s = record { titles = s.titles; rows = rows_at s.words s.posts }
 
 -- ascending; those that have a title
-abbrev pub docs_in : Stock → List ℕ
-docs_in s = map.keys s.titles
+abbrev pub stock_docs : Stock → List ℕ
+stock_docs s = map.keys s.titles
 
 -- ascending; where each number is one, all from 0 on
 abbrev pub present_docs : List Bool → List ℕ
@@ -122,9 +122,9 @@ abbrev pub base_docs : List ℕ → Base → List ℕ
 base_docs ds b = map (λ h. h.doc) (base_hits ds b)
 
 -- of a base that stands for all they are all
-abbrev pub posts_in : Base → List Post → List Post
-posts_in base.All posts = posts
-posts_in (base.Listed hs) posts = keep_docs posts (map (λ h. h.doc) hs)
+abbrev pub base_posts : Base → List Post → List Post
+base_posts base.All posts = posts
+base_posts (base.Listed hs) posts = keep_docs posts (map (λ h. h.doc) hs)
 
 -- ---- tables
 -- its count stays
@@ -141,7 +141,7 @@ title_at titles d = unwrap_or (map.get titles d) []
 
 -- in order; none where no document of the base has the facet
 abbrev pub named_rows_in : Stock → Base → List ℕ → List Row
-named_rows_in s b n = filter (λ r. is_listed (base_docs (docs_in s) b) r.doc) (named_rows s n)
+named_rows_in s b n = filter (λ r. is_listed (base_docs (stock_docs s) b) r.doc) (named_rows s n)
 
 -- a facet that is asked is shown, also with no word
 abbrev pub facet_at : Stock → Base → ℕ → List ℕ → FacetShown

@@ -4,7 +4,7 @@ ghost use Rattle.cs_meet.specs.Filters.{drop_docs};
 ghost use Rattle.cs_base.specs.content.{Members.{members_in}, Orders.{AreSorted, by_rank}};
 ghost use Rattle.cs_model_kept.specs.Entries.{listed_count};
 ghost use Rattle.cs_rank.specs.DocScores.{IsBase};
-ghost use Rattle.cs_engine.specs.{Sources.{IsSource}, Stocked.{base_hits, every, posts_in, present_docs}};
+ghost use Rattle.cs_engine.specs.{Sources.{IsSource}, Stocked.{base_hits, every, base_posts, present_docs}};
 
 use crate::source::Source;
 use cs_base::{Base, Memory, Scored, Seq};
@@ -18,7 +18,7 @@ pub(crate) fn kept_in(alloc: Global, base: &Base, rows: Cols) -> Result<Cols, Me
     requires base { IsBase base.now }
     requires rows_sorted { AreSorted rows.posts }
 
-    ensures ok { IfOk result (λ c. c.posts ≡ posts_in base.now rows.posts) }
+    ensures ok { IfOk result (λ c. c.posts ≡ base_posts base.now rows.posts) }
     ensures sorted { IfOk result (λ c. AreSorted c.posts) }
 {
     match base {

@@ -12,12 +12,12 @@ loop-doc-preserved g c =
     let inv = c.loop-doc.invariant in
     elim c.if-has_doc.branch [
       | then-has_doc w ↦ record {
-          are = ap (λ v. v.items) w.all-is ∙ w.push_reserved.ensures.items ∙ ap (λ xs. xs ++ with_no_score doc ∷ []) inv.are
-              ∙ sym (every_there present doc (sym c.has_doc.ensures ∙ w.if-has_doc.true));
-          room = omega (arith, inv.room, ap vec_len w.all-is, ap vec_capacity w.all-is, w.push_reserved.ensures.len, w.push_reserved.ensures.capacity);
-        }
+        are = ap (λ v. v.items) w.all-is ∙ w.push_reserved.ensures.items ∙ ap (λ xs. xs ++ with_no_score doc ∷ []) inv.are
+            ∙ sym (every_there present doc (sym c.has_doc.ensures ∙ w.if-has_doc.true));
+        room = omega (arith, inv.room, ap vec_len w.all-is, ap vec_capacity w.all-is, w.push_reserved.ensures.len, w.push_reserved.ensures.capacity);
+      }
       | else-has_doc w ↦ record {
-          are = ap (λ v. v.items) w.all-is ∙ inv.are ∙ sym (every_gone present doc (sym c.has_doc.ensures ∙ w.if-has_doc.false));
-          room = omega (arith, inv.room, ap vec_len w.all-is, ap vec_capacity w.all-is);
-        }
+        are = ap (λ v. v.items) w.all-is ∙ inv.are ∙ sym (every_gone present doc (sym c.has_doc.ensures ∙ w.if-has_doc.false));
+        room = omega (arith, inv.room, ap vec_len w.all-is, ap vec_capacity w.all-is);
+      }
     ]
