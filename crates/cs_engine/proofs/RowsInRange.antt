@@ -1,17 +1,16 @@
 -- The posts of a range of words, from the blocks that hold such words.
 --
---   kept_within, united_within     posts that are cut and united are in order and in range
+--   kept_within      posts that are cut are in order and in range
 --   same_posts       posts in order with the same members are the same
 --   met_count        how many blocks are met
-use Rattle.std.proofs.Common.{◌≡◌, ℕ, zero, suc, ◌-◌, ◌<◌, ◌≤◌, ◌&&◌, Bool, true, false, cond, List, [], ◌∷◌, ◌++◌, length, get_or, refl, sym, ap, subst}
+use Rattle.std.proofs.Common.{◌≡◌, ℕ, zero, suc, ◌-◌, ◌<◌, ◌≤◌, ◌&&◌, Bool, true, false, cond, List, [], ◌∷◌, length, get_or, refl, sym, ap, subst}
 use Rattle.std.proofs.Common.{◌∙◌, arith}
 use Rattle.std.specs.Prelude.{filter, nat_le, nat_lt}
 use Rattle.std.specs.List.{list_any}
 use Rattle.std.specs.List.Sorted.{IsStrictlySortedBy}
 use Rattle.std.proofs.lemmas.Bool.Decides.{nat_tests}
-use Rattle.std.proofs.lemmas.List.Elements.{All-nil, All-filter, All-append}
+use Rattle.std.proofs.lemmas.List.Elements.{All-nil, All-filter}
 use Rattle.std.proofs.lemmas.List.Kept.{IsStrictlySortedBy-filter}
-use Rattle.std.proofs.lemmas.List.Sorted.{All-permutation}
 use Rattle.std.specs.Ordering.{nat_cmp, eq_by_cmp, ordering_then}
 use Rattle.std.specs.declared.cmp.Ordering.TheVariants.{Less}
 use Rattle.cs_base.specs.content.Orders.{by_place, AreSorted}
@@ -19,7 +18,6 @@ use Rattle.cs_base.specs.declared.content.doc.Post.{Post}
 use Rattle.cs_base.specs.declared.index.block.BlockHead.{BlockHead}
 use Rattle.cs_base.proofs.MembersLemmas.{all_then, members_are}
 use Rattle.cs_file.specs.Indexes.{IndexView, AreMet, is_met}
-use Rattle.cs_meet.specs.Filters.{IsUnion, missing}
 use Rattle.cs_engine.specs.IndexReading.{by_post, IsWithin, AreWithin}
 use Rattle.cs_engine.proofs.StockLemmas.{by_post_total, by_post_exact}
 
@@ -29,11 +27,6 @@ kept_within i t posts h = record {
   sorted = IsStrictlySortedBy-filter by_place t posts h.sorted;
   within = All-filter t (IsWithin i.docs (length i.words)) posts h.within;
 }
-
-pub united_within : (i : IndexView) (a b c : List Post) → AreWithin i a → AreWithin i b → IsUnion a b c → AreSorted c → AreWithin i c
-united_within i a b c in_a in_b union up =
-    let P : Post → Type 0 = IsWithin i.docs (length i.words) in
-    record { sorted = up; within = All-permutation P (a ++ missing a b) c union (All-append P a (missing a b) in_a.within (All-filter _ P b in_b.within)) }
 
 none_sorted : AreSorted []
 unfolding IsStrictlySortedBy
