@@ -6,8 +6,10 @@ ghost use Rattle.cs_json.specs.FaultTexts.{fault_text};
 ghost use Rattle.cs_json.specs.declared.fault.Fault.TheVariants as faults;
 ghost use Rattle.cs_model.specs.Corpus.{Corpus};
 ghost use Rattle.cs_model.specs.Outputs.{memory_text, read_text};
+ghost use Rattle.cs_model.specs.Parameters.{HoldsLimits};
+ghost use Rattle.cs_query.specs.RequestView.{asked};
 ghost use Rattle.cs_query.specs.declared.request.ReqFault.{ReqFault};
-ghost use Rattle.cs_top.specs.Answering.{AnswersOver, CameOver, HasText, IsThere, MayAnswer, StaysOver, bytes_there, came_of_answer, line_bytes};
+ghost use Rattle.cs_top.specs.Answering.{AnswersOver, CameOver, HasReply, HasText, IsThere, MayAnswer, StaysOver, bytes_there, came_of_answer, line_bytes};
 ghost use Rattle.cs_top.specs.CommandLine.{CausedBy};
 ghost use Rattle.cs_top.specs.HitForms.{form_by, shown_reply};
 ghost use Rattle.cs_top.specs.declared.script.answers.Answer.TheVariants as answers;
@@ -16,15 +18,15 @@ ghost use Rattle.cs_top.specs.PutTexts.{CutsLine, HasTextBy, IsChangeLine, PutsL
 ghost use Rattle.cs_top.specs.ScriptEndings.{Passes, StopsAt};
 ghost use Rattle.cs_top.specs.Views.{of_script, stop_ending};
 
-use crate::answering::{IndexFile, outcome_over};
+use crate::answering::{IndexFile, respond};
 use crate::lines::{ScriptStop, line_fault};
 use crate::script::WhatCame;
 use crate::showing::Showing;
 use cs_base::{Files, Memory, Query, Sink};
-use cs_engine::Engine;
-use cs_hub::RequestOutcome;
+use cs_engine::{AskFault, Engine};
+use cs_http::request;
 use cs_json::{Fault, fault_bytes};
-use cs_query::{Reply, ReqFault};
+use cs_query::{Reply, ReqFault, Request};
 use std::alloc::Global;
 
 /// What is put for a line that is read, with its line ending.
@@ -142,21 +144,38 @@ fn answer_params<F: Files>(
     ensures came { CameOver engine.old file.old (F.held files.old) (came_of_answer result) (F.faults files.old) (F.faults files.new) }
     ensures text { (k : Corpus) → AnswersOver engine.old file.old (F.held files.old) k → HasText (MayAnswer showing.now file.old k) line.now result }
     ensures texts { HasTextBy (form_by showing.now) result }
+    ensures over { StaysOver engine.old engine.new file.old file.new (F.held files.old) (F.held files.new) }
+{
+    match request(showing.alloc, line) {
+        Ok(wanted) => answer_request(showing, engine, file, files, &wanted),
+        Err(fault) => text_or_memory(refusal_line(showing.alloc, fault)),
+    }
+}
+
+// What is put for a line that is a request.
+fn answer_request<F: Files>(
+    showing: &Showing<'_>,
+    engine: &mut Engine,
+    file: &mut IndexFile<'_>,
+    files: &mut F,
+    wanted: &Request,
+) -> Answer
+    requires limits { HoldsLimits (asked wanted.now) }
+    requires there { IsThere engine.old.index file.old (F.held files.old) }
+
+    ensures came { CameOver engine.old file.old (F.held files.old) (came_of_answer result) (F.faults files.old) (F.faults files.new) }
+    ensures text { (k : Corpus) → AnswersOver engine.old file.old (F.held files.old) k → HasReply showing.now k (asked wanted.now) result }
+    ensures texts { HasTextBy (form_by showing.now) result }
     ensures changed { IsChangeLine engine.old.index (bytes_there file.old (F.held files.old)) result }
     ensures over { StaysOver engine.old engine.new file.old file.new (F.held files.old) (F.held files.new) }
 {
-    match outcome_over(showing.alloc, engine, file, files, line) {
-        RequestOutcome::Refused(fault) => text_or_memory(refusal_line(showing.alloc, fault)),
-        RequestOutcome::Replied(wanted, reply) => {
-            text_or_memory(reply_line(showing, &wanted.query, &reply))
+    match respond(showing.alloc, engine, file, files, wanted) {
+        Ok((reply, _)) => text_or_memory(reply_line(showing, &wanted.query, &reply)),
+        Err(AskFault::Memory) => Answer::Memory,
+        Err(AskFault::Read) => Answer::Read,
+        Err(AskFault::Changed { rule, at }) => {
+            Answer::Changed(changed_line(showing.alloc, rule, at))
         }
-        RequestOutcome::Read => Answer::Read,
-        RequestOutcome::Changed { rule, at } => Answer::Changed(changed_line(
-            showing.alloc,
-            rule,
-            at,
-        )),
-        RequestOutcome::Memory => Answer::Memory,
     }
 }
 
