@@ -1,0 +1,4 @@
+pub mod NumberLemmas
+pub mod NowLemmas
+pub mod StateLemmas
+pub mod FetchedLemmas
