@@ -108,7 +108,7 @@ now_rest : (shift : List ℕ) → AreDocs shift → (p : Post) (ps : List Post) 
 now_rest shift up p [] l h = tt
 now_rest shift up p (q ∷ ps) l h = (place_new (nat_cmp p.doc q.doc) (nat_cmp p.pos q.pos) shift up p.word q.word l.0 h.0, now_rest shift up p ps l.1 h.1)
 
-new_rises : (shift : List ℕ) → AreDocs shift → (ps : List Post) → AllByRecursion (λ q. q.word < length shift) ps → AreSorted ps → AreSorted (map (renumbered shift) ps)
+pub new_rises : (shift : List ℕ) → AreDocs shift → (ps : List Post) → AllByRecursion (λ q. q.word < length shift) ps → AreSorted ps → AreSorted (map (renumbered shift) ps)
 unfolding IsStrictlySortedBy
 new_rises shift up [] l h = tt
 new_rises shift up (p ∷ ps) l h = (now_rest shift up p ps l.1 h.0, new_rises shift up ps l.1 h.1)

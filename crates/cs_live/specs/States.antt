@@ -10,13 +10,15 @@
 --   now_posts shift present posts    posts of the index as they are now, without those of documents that are gone
 --   stock_now s b        what a state has over the bytes of its index
 --   source_now s          a state as a source
+--   opened_state i       an index before the first change
+--   with_title s t       one document more, without rows
 --   IsState s            what always holds of a state
 --   IsFetched i told k shift present lo hi listed posts    what a fetch of a block gives: its posts that are sought, as they are now
 --   AreScoredNow shift present docs words scores ..    documents, words and scores of posts as they are now, of those of posts
 --   IsScoredNow i told k shift present f    the same of the posts of a block
 --   IsTitle i told added d t     the title of a document of the index or of an added one
-use Rattle.std.specs.Prelude.{◌≡◌, ℕ, ◌+◌, ◌-◌, ◌≤◌, ◌<◌, Bool, true, false, nat_lt, List, [], ◌∷◌, ◌++◌, length, filter, map, take, Option, slice_index_or, if◌then◌else◌}
-use Rattle.std.specs.List.{All}
+use Rattle.std.specs.Prelude.{◌≡◌, ℕ, ◌+◌, ◌-◌, ◌≤◌, ◌<◌, Bool, true, false, nat_lt, List, [], ◌∷◌, ◌++◌, length, filter, map, replicate, take, Option, slice_index_or, if◌then◌else◌}
+use Rattle.std.specs.List.{All, range_with_len}
 use Rattle.std.specs.List.Sorted.{IsStrictlySortedBy}
 use Rattle.std.specs.Ordering.{nat_cmp}
 use Rattle.std.specs.Cmp.Lexicographic.{slice_cmp}
@@ -29,7 +31,7 @@ use Rattle.cs_file.specs.CallAnswers.{AreScoredOf, IsRanged}
 use Rattle.cs_file.specs.Indexes.{IndexView, IsIndex, block_posts}
 use Rattle.cs_file.specs.declared.fetched.Fetched.{Fetched}
 use Rattle.cs_tables.specs.WordCounts.{is_chosen}
-use Rattle.cs_merge.specs.Vocabularies.{IsShift}
+use Rattle.cs_merge.specs.Vocabularies.{AreOfWordSize, IsShift}
 use Rattle.cs_model_index.specs.Sections.{image_of}
 use Rattle.cs_engine.specs.IndexReading.{WhereStood, stock_of}
 use Rattle.cs_engine.specs.Sources.{IsIn, SourceView, is_there}
@@ -79,6 +81,14 @@ source_now s = record {
   blocks = λ b. map (now_posts s.shift s.present) (image_of b).blocks;
 }
 
+-- all of its documents are there, and none more
+abbrev pub opened_state : IndexView → StateView
+opened_state i = record { index = i; words = i.words; shift = range_with_len 0 (length i.words); present = replicate i.docs true; whole = true; held = []; added = [] }
+
+-- its number is the next one
+abbrev pub with_title : StateView → List ℕ → StateView
+with_title s t = record s { present = s.present ++ true ∷ []; added = s.added ++ t ∷ [] }
+
 -- whatever store its index was opened over; an added document's number is behind those of the index
 pub record IsState (s : StateView) : Type 0 where
   pub index : IsIndex s.index
@@ -86,6 +96,7 @@ pub record IsState (s : StateView) : Type 0 where
   pub few_words : length s.words ≤ MAX_WORDS
   pub ascending : IsStrictlySortedBy (slice_cmp nat_cmp) s.words
   pub texts : All IsUtf8 s.words
+  pub sized : AreOfWordSize s.words
   pub shift : IsShift s.index.words s.words s.shift
   pub count : length s.present ≡ s.index.docs + length s.added
   pub whole : s.whole ≡ true → (d : ℕ) → d < s.index.docs → slice_index_or s.present d false ≡ true
