@@ -39,3 +39,4 @@ pub mod OpenedLemmas
 pub mod OverSources
 pub mod ChosenLemmas
 pub mod FacetTables
+pub mod NoHitLemmas

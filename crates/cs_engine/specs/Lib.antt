@@ -13,3 +13,4 @@ pub mod Spans
 pub mod HeldRanges
 pub mod Finding
 pub mod Sources
+pub mod Skipping

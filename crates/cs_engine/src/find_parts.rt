@@ -15,18 +15,19 @@ use crate::chosen::{many_chosen, pack_chosen};
 use crate::counting::listed_docs;
 use crate::finding::{QueryFound, QueryOver, found_with};
 use crate::gathering::{GatheredKeys, gather_keys};
-use crate::hits::listed_count;
+use crate::hits::{listed_count, lists_none};
 use crate::packing::ordered;
 use crate::plain::words_of_part;
 use crate::source::Source;
 use crate::steps::extended_entry;
 use cs_base::{Base, Store};
 use cs_cache::KeptEntry;
+use cs_cols::Cols;
 use cs_file::FetchFault;
 use cs_model_kept::MAX_ENTRY_SIZE;
 use cs_tables::Table;
 
-/// What is found of a query by the hits of its parts before the last, whose atoms are read.
+/// What is found of a query by the hits of its parts before the last, whose atoms are read. Without a hit nothing is read.
 pub(crate) fn find_last<I: Source, S: Store>(
     over: QueryOver<'_, I>,
     store: &mut S,
@@ -47,6 +48,11 @@ pub(crate) fn find_last<I: Source, S: Store>(
     let parts = over.query.parts.as_slice();
     let last = parts.len() - 1;
     let part = &parts[last];
+    if lists_none(&hits) {
+        let rows = Cols::new(over.alloc);
+        let none = found_with(over, KeptEntry { base: hits, rows })?;
+        return Ok(none);
+    }
     if let Some(words) = words_of_part(over.index, part) {
         let found = find_words(over, store, hits, words)?;
         return Ok(found);

@@ -13,8 +13,8 @@ ghost use Rattle.cs_engine.specs.{IndexReading.{OnlyReads, WhereStood}, Sources.
 use crate::counting::listed_docs;
 use crate::facets::{count_facet, rows_of_words};
 use crate::held::{HeldRange, Holder, Holding};
-use crate::hits::first_hits;
-use crate::replies::shown_words;
+use crate::hits::{first_hits, lists_none};
+use crate::replies::{bare_facets, shown_words};
 use crate::source::Source;
 use crate::words::span_of_facet;
 use cs_base::{Base, Scored, Seq, Store, Text};
@@ -86,7 +86,7 @@ pub(crate) fn show<I: Source, S: Store>(
     })
 }
 
-// The table of each facet asked.
+// The table of each facet asked. Without a hit nothing is read.
 fn shown_facets<I: Source, S: Store>(
     over: RequestOver<'_, I>,
     store: &mut S,
@@ -115,6 +115,10 @@ fn shown_facets<I: Source, S: Store>(
     let mut shown = Seq::new(alloc);
     if request.facets.as_slice().is_empty() {
         return Ok(shown);
+    }
+    if lists_none(base) {
+        let bare = bare_facets(alloc, request.facets.as_slice())?;
+        return Ok(bare);
     }
     let listed = listed_docs(alloc, index, base)?;
     for name in request.facets.as_slice() {

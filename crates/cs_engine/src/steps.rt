@@ -10,6 +10,7 @@ ghost use Rattle.cs_engine.specs.{Steps.{AreHitsOver, EntryFits, IsBaseOf, IsSte
 
 use crate::entries::{posts_after, posts_hits};
 use crate::evaluation::rows_of_part;
+use crate::hits::lists_none;
 use crate::plain::words_of_part;
 use crate::scored::hits_by_words;
 use crate::source::Source;
@@ -19,6 +20,7 @@ use cs_file::FetchFault;
 use std::alloc::Global;
 
 /// The hits of a query of these parts, one part after the other. Where a part asks for some words, its rows are brought into no order.
+/// Behind parts that leave no hit nothing is read.
 pub(crate) fn hits_of_parts<I: Source, S: Store>(
     alloc: Global,
     index: &I,
@@ -36,6 +38,9 @@ pub(crate) fn hits_of_parts<I: Source, S: Store>(
 {
     let mut hits = Base::All;
     for part in parts {
+        if lists_none(&hits) {
+            continue;
+        }
         if let Some(words) = words_of_part(index, part) {
             let scored = hits_by_words(alloc, index, store, &hits, words)?;
             hits = Base::Listed(scored);

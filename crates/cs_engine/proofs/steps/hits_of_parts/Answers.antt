@@ -6,15 +6,18 @@ use Rattle.cs_base.specs.declared.content.doc.Post.{Post}
 use Rattle.cs_base.specs.declared.content.limits.TheConstants.{MAX_PARTS}
 use Rattle.cs_base.specs.declared.content.query.Part.{out-Part}
 use Rattle.cs_base.specs.declared.content.scores.TheConstants.{MAX_ROW_SCORE}
+use Rattle.cs_model.specs.Answers.{rows_of_part}
 use Rattle.cs_model_kept.specs.Entries.{EntryOf}
 use Rattle.cs_rank.specs.DocScores.{IsBase}
 use Rattle.cs_engine.specs.Sources.{seen}
 use Rattle.cs_engine.specs.Steps.{IsBaseOf, posts_hits}
+use Rattle.cs_engine.specs.Stocked.{corpus_in}
 use Rattle.cs_engine.proofs.BehindLemmas.{behind_words, most_more}
 use Rattle.cs_engine.proofs.EvaluationLemmas.{hits_end, hits_go_on}
 use Rattle.cs_engine.proofs.FoundLemmas.{is_excluded}
-use Rattle.cs_engine.proofs.PartSteps.{base_in, base_weaker, hits_in}
-use Rattle.cs_engine.proofs.WalkLemmas.{list_begins, list_goes_on, list_stops, within_more}
+use Rattle.cs_engine.proofs.NoHitLemmas.{lists_no, none_based, none_behind}
+use Rattle.cs_engine.proofs.PartSteps.{AreHitsBehind, base_in, base_weaker, hits_in}
+use Rattle.cs_engine.proofs.WalkLemmas.{list_begins, list_goes_on, list_skips, list_stops, within_more}
 use Rattle.cs_engine.proofs.steps.hits_of_parts.Goals as goal
 
 -- the hits of some of the parts are in the range of as many as there may be
@@ -28,6 +31,24 @@ loop-part-init g c = record {
   within = tt;
   told = λ b is stands. refl;
 }
+
+-- ---- behind parts that leave no hit
+pub loop-part-preserved-then-lists_none : goal.loop-part-preserved-then-lists_none
+loop-part-preserved-then-lists_none g c =
+    let v = g.I.Source.view c.args.index.now in
+    let n = c.loop-part.part-index in
+    let inv = c.loop-part.invariant in
+    let x = c.part-item.result in
+    let none = lists_no c.loop-part.hits (sym c.lists_none.ensures ∙ c.if-lists_none.true) in
+    record {
+      walk = list_skips inv.walk c.loop-part-test.true c.part-item.is;
+      within = subst (IsBaseOf v.docs (MAX_ROW_SCORE * (n + 1))) (sym none) (none_based v.docs (MAX_ROW_SCORE * (n + 1)));
+      told = λ b is stands.
+          let s = v.stock b in
+          let p = rows_of_part (corpus_in s) x in
+          hits_go_on s c.args.parts.now n x c.loop-part-test.true c.part-item.is c.loop-part.hits c.loop-part.hits (inv.told b is stands)
+          (subst (λ h. AreHitsBehind s h p h) (sym none) (none_behind s p));
+    }
 
 -- ---- a part that asks for some words
 pub hits_by_words-requires-clause-base : goal.hits_by_words-requires-clause-base
