@@ -14,3 +14,4 @@ pub mod HeldRanges
 pub mod Finding
 pub mod Sources
 pub mod Skipping
+pub mod Restricting

@@ -12,7 +12,7 @@ use Rattle.cs_engine.specs.Steps.{IsStep}
 use Rattle.cs_engine.specs.Stocked.{corpus_in}
 use Rattle.cs_engine.proofs.NoHitLemmas.{bare_entry, lists_no, none_fits, none_step}
 use Rattle.cs_engine.proofs.PartSteps.{base_weaker}
-use Rattle.cs_engine.proofs.PlansLemmas.{ends_last, is_last, last_met, more_by_words, more_fits, more_told}
+use Rattle.cs_engine.proofs.PlansLemmas.{ends_last, is_last, last_hit, more_by_words, more_fits, more_told}
 use Rattle.cs_engine.proofs.WalkLemmas.{within_more}
 use Rattle.cs_engine.proofs.find_parts.find_last.Goals as goal
 
@@ -66,9 +66,9 @@ find_words-requires-clause-asks g c =
 
 pub returns-in_err-found-clause-reads : goal.returns-in_err-found-clause-reads
 returns-in_err-found-clause-reads g c =
-    let met = last_met (division (g.I.Source.view c.args.over.index.now).index)
+    let met = last_hit (division (g.I.Source.view c.args.over.index.now).index) c.args.hits
     (is_last {q = c.args.over.query.now} c.requires.some c.as_slice-parts.ensures c.index-parts-last.is) in
-    let few = c.in-Some.ensures.words.few in
+    let few = c.in-Some.ensures.sharp c.args.hits in
     within_more c.in_err-found.ensures.reads (omega (arith, met, few))
 
 pub returns-in-Some-clause-told : goal.returns-in-Some-clause-told
@@ -83,9 +83,9 @@ returns-in-Some-clause-told g c b is stands over =
 
 pub returns-in-Some-clause-reads : goal.returns-in-Some-clause-reads
 returns-in-Some-clause-reads g c =
-    let met = last_met (division (g.I.Source.view c.args.over.index.now).index)
+    let met = last_hit (division (g.I.Source.view c.args.over.index.now).index) c.args.hits
     (is_last {q = c.args.over.query.now} c.requires.some c.as_slice-parts.ensures c.index-parts-last.is) in
-    let few = c.in-Some.ensures.words.few in
+    let few = c.in-Some.ensures.sharp c.args.hits in
     within_more c.in_ok-found.ensures.reads (omega (arith, met, few))
 
 -- ---- another part
@@ -98,7 +98,7 @@ extended_entry-requires-clause-base g c =
 
 pub returns-in_err-entry-clause-reads : goal.returns-in_err-entry-clause-reads
 returns-in_err-entry-clause-reads g c =
-    let met = last_met (division (g.I.Source.view c.args.over.index.now).index)
+    let met = last_hit (division (g.I.Source.view c.args.over.index.now).index) c.args.hits
     (is_last {q = c.args.over.query.now} c.requires.some c.as_slice-parts.ensures c.index-parts-last.is) in
     within_more c.extended_entry.ensures.reads (omega (arith, met))
 
@@ -118,7 +118,7 @@ found_with-requires-2 g c =
 
 pub returns-in_err-found-2-clause-reads : goal.returns-in_err-found-2-clause-reads
 returns-in_err-found-2-clause-reads g c =
-    let met = last_met (division (g.I.Source.view c.args.over.index.now).index)
+    let met = last_hit (division (g.I.Source.view c.args.over.index.now).index) c.args.hits
     (is_last {q = c.args.over.query.now} c.requires.some c.as_slice-parts.ensures c.index-parts-last.is) in
     within_more c.extended_entry.ensures.reads (omega (arith, met))
 
@@ -133,6 +133,6 @@ returns-clause-told g c b is stands over =
 
 pub returns-clause-reads : goal.returns-clause-reads
 returns-clause-reads g c =
-    let met = last_met (division (g.I.Source.view c.args.over.index.now).index)
+    let met = last_hit (division (g.I.Source.view c.args.over.index.now).index) c.args.hits
     (is_last {q = c.args.over.query.now} c.requires.some c.as_slice-parts.ensures c.index-parts-last.is) in
     within_more c.extended_entry.ensures.reads (omega (arith, met))
