@@ -31,7 +31,7 @@ use std::alloc::Global;
 
 /// What is put for a line that is read, with its line ending.
 #[derive(Drop)]
-enum Answer {
+pub(crate) enum Answer {
     /// Its text.
     Text(Vec<u8>),
     /// The text of want of memory.
@@ -84,8 +84,8 @@ pub(crate) fn answer_line<F: Files, O: Sink>(
     put_answer(out, &answer)
 }
 
-// Puts an answer, and says what came of the line.
-fn put_answer<O: Sink>(out: &mut O, answer: &Answer) -> Result<WhatCame, ScriptStop>
+/// Puts an answer, and says what came of the line.
+pub(crate) fn put_answer<O: Sink>(out: &mut O, answer: &Answer) -> Result<WhatCame, ScriptStop>
     ensures ok { OnOk result (Grew (O.written out.old) (line_bytes answer.now) (O.written out.new)) }
     ensures came { IfOk result (λ c. c ≡ came_of_answer answer.now) }
     ensures err { OnErr result (GrewByPrefix (O.written out.old) (line_bytes answer.now) (O.written out.new)) }
@@ -102,9 +102,9 @@ fn put_answer<O: Sink>(out: &mut O, answer: &Answer) -> Result<WhatCame, ScriptS
     }
 }
 
-// The text in a line's place where memory ran out, with its line ending.
+/// The text in a line's place where memory ran out, with its line ending.
 #[tactic(auto, using(crate::proofs::MemoryText::memory_line))]
-fn memory_line() -> &'static [u8]
+pub(crate) fn memory_line() -> &'static [u8]
     ensures { result.now ≡ memory_text ++ 10 ∷ [] }
 {
     b"{\"error\":\"memory\"}\n"
@@ -179,7 +179,8 @@ fn answer_request<F: Files>(
     }
 }
 
-fn text_or_memory(line: Result<Vec<u8>, Memory>) -> Answer
+/// A text, or that of want of memory where there is none for it.
+pub(crate) fn text_or_memory(line: Result<Vec<u8>, Memory>) -> Answer
     ensures text { IfOk line (λ b. result ≡ answers.Text b) }
     ensures memory { OnErr line (result ≡ answers.Memory) }
 {
@@ -189,8 +190,8 @@ fn text_or_memory(line: Result<Vec<u8>, Memory>) -> Answer
     }
 }
 
-// The text of a reply to a query, and its line ending.
-fn reply_line(showing: &Showing<'_>, query: &Query, reply: &Reply) -> Result<Vec<u8>, Memory>
+/// The text of a reply to a query, and its line ending.
+pub(crate) fn reply_line(showing: &Showing<'_>, query: &Query, reply: &Reply) -> Result<Vec<u8>, Memory>
     ensures { IfOk result (λ b. b.items ≡ shown_reply showing.now query.now reply.now ++ 10 ∷ []) }
 {
     let mut bytes = showing.reply_bytes(query, reply)?;
@@ -198,8 +199,8 @@ fn reply_line(showing: &Showing<'_>, query: &Query, reply: &Reply) -> Result<Vec
     Ok(bytes)
 }
 
-// The text of a changed index file, and its line ending; None where there is no memory for it.
-fn changed_line(alloc: Global, rule: u8, at: u64) -> Option<Vec<u8>>
+/// The text of a changed index file, and its line ending; None where there is no memory for it.
+pub(crate) fn changed_line(alloc: Global, rule: u8, at: u64) -> Option<Vec<u8>>
     ensures { ForSome result (λ b. b.items ≡ fault_text (faults.Changed rule at) ++ 10 ∷ []) }
 {
     let Ok(mut bytes) = fault_bytes(alloc, &Fault::Changed { rule, at }) else {
@@ -211,8 +212,8 @@ fn changed_line(alloc: Global, rule: u8, at: u64) -> Option<Vec<u8>>
     }
 }
 
-// The text of a refusal, and its line ending. Want of memory isn't one.
-fn refusal_line(alloc: Global, fault: ReqFault) -> Result<Vec<u8>, Memory>
+/// The text of a refusal, and its line ending. Want of memory isn't one.
+pub(crate) fn refusal_line(alloc: Global, fault: ReqFault) -> Result<Vec<u8>, Memory>
     ensures text { IfOk result (λ b. b.items ≡ fault_text (faults.Refused fault) ++ 10 ∷ []) }
     ensures refused { OnOk result (fault ≢ ReqFault.Memory) }
 {

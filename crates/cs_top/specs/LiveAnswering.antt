@@ -1,0 +1,88 @@
+-- What answers the lines of a script that adds documents and deletes them: an index under changes, over its file, which the files hold.
+--
+--   IsAt b l s                  over the bytes b of its index, an index under changes is in the state s of a live corpus
+--   IsLiveAt b l s              the same, the bytes stand for the index, and what is kept of answers is good
+--   LiveOver l f held b s       the same over a file that tells these bytes
+--   StaysIndex l l' h h'        the index and what is held are the same
+--   Tells b s x o e             an outcome is put as the text of what the line x, as one that adds or deletes, does in this state; or as that of want
+--                               of memory, and the state stays
+--   TellsAddition b s f doc o e     the same of a document that isn't refused, where f is the refusal of its room
+--   LineText b s                a text that a line may have in this state, which is none of a changed file
+--   LivePasses b s l old new came .. e    the line l has no bytes, and nothing was put; or it is read, and a text was put for it. It leads to the state e
+--   LiveReaches b s x p q old new came .. e    from one place of a script x to the next, a line was met and passed
+use Rattle.std.specs.Prelude.{◌≡◌, ◌≢◌, ◌⊎◌, ℕ, ◌+◌, List, [], ◌∷◌, ◌++◌, drop, length, Option, Some, None}
+use Rattle.std.specs.Str.Lines.{lines}
+use Rattle.cs_base.specs.outside.Outside.{Grew, Held, file_bytes}
+use Rattle.cs_base.specs.declared.content.doc.Doc.{Doc}
+use Rattle.cs_file.specs.Indexes.{StandsFor}
+use Rattle.cs_live.specs.Lives.{AreGoodNow, IsBehind, LiveView, changes_in, next_number}
+use Rattle.cs_model.specs.Outputs.{IsChangedText, MayPut, line_fault, memory_text}
+use Rattle.cs_model_changes.specs.Changes.{Change, now}
+use Rattle.cs_model_index.specs.Sections.{file_corpus, image_of}
+use Rattle.cs_model_live.specs.Courses.{IsLineStep, additions_in}
+use Rattle.cs_model_live.specs.LiveLines.{LiveLine, by_refusals, line_outcome, outcome_state, outcome_text}
+use Rattle.cs_model_live.specs.LiveStates.{Full, LiveState}
+use Rattle.cs_top.specs.Answering.{Costs}
+use Rattle.cs_top.specs.LiveTexts.{told_bytes}
+use Rattle.cs_top.specs.declared.live.outcomes.Outcome.{Outcome}
+use Rattle.cs_top.specs.declared.lines.Place.{Place}
+use Rattle.cs_top.specs.declared.script.WhatCame.{WhatCame}
+use Rattle.cs_top.specs.declared.script.WhatCame.TheVariants.{Answered}
+
+-- the state is what some changes make of the corpus of the bytes, and so is the index under changes
+pub record IsAt (b : List ℕ) (l : LiveView) (s : LiveState) : Type 0 where
+  pub made : List Change
+  pub behind : IsBehind b made l
+  pub count : changes_in l ≡ length made
+  pub corpus : s.corpus ≡ now l.state.index.weights (file_corpus b) made
+  pub changes : s.changes ≡ length made
+  pub additions : s.additions ≡ additions_in made
+
+-- so it answers right
+pub record IsLiveAt (b : List ℕ) (l : LiveView) (s : LiveState) : Type 0 where
+  pub stands : StandsFor b l.state.index
+  pub at : IsAt b l s
+  pub good : AreGoodNow b l
+
+-- of files that don't tell there are no such bytes
+pub record LiveOver (l : LiveView) (name : List ℕ) (held : Option Held) (b : List ℕ) (s : LiveState) : Type 0 where
+  pub told : file_bytes held name ≡ Some b
+  pub live : IsLiveAt b l s
+
+-- whatever else is changed
+pub record StaysIndex (l l' : LiveView) (held held' : Option Held) : Type 0 where
+  pub index : l'.state.index ≡ l.state.index
+  pub files : held' ≡ held
+
+-- over the corpus of the bytes
+abbrev pub Tells : List ℕ → LiveState → LiveLine → Outcome → LiveState → Type 0
+Tells b s x o e =
+    let became = line_outcome (image_of b).weights (file_corpus b) s x in
+    ((told_bytes o ≡ outcome_text (file_corpus b) s became ++ 10 ∷ []) × (e ≡ outcome_state (image_of b).weights (file_corpus b) s became))
+    ⊎ ((told_bytes o ≡ memory_text ++ 10 ∷ []) × (e ≡ s))
+
+-- the same of a document that isn't refused, by the refusal of its room
+abbrev pub TellsAddition : List ℕ → LiveState → Option Full → Doc → Outcome → LiveState → Type 0
+TellsAddition b s full doc o e =
+    let became = by_refusals None full doc in
+    ((told_bytes o ≡ outcome_text (file_corpus b) s became ++ 10 ∷ []) × (e ≡ outcome_state (image_of b).weights (file_corpus b) s became))
+    ⊎ ((told_bytes o ≡ memory_text ++ 10 ∷ []) × (e ≡ s))
+
+-- over the corpus of the bytes
+abbrev pub IsLiveStep : List ℕ → LiveState → List ℕ → List ℕ → LiveState → Type 0
+IsLiveStep b s l t e = IsLineStep (image_of b).weights (file_corpus b) s l t e × ¬ IsChangedText t
+
+-- whichever state is behind it
+abbrev pub LineText : List ℕ → LiveState → MayPut
+LineText b s l t = (e : LiveState) × IsLiveStep b s l t e
+
+-- the line is passed: it has no bytes, and nothing was put; or it is read, and a text was put for it whole, by what came of it
+abbrev pub LivePasses : List ℕ → LiveState → ℕ × List ℕ → Option (List ℕ) → Option (List ℕ) → WhatCame → ℕ → ℕ → LiveState → Type 0
+LivePasses b s l old new came before now e =
+    ((l.1 ≡ []) × (new ≡ old) × (came ≡ Answered) × (now ≡ before) × (e ≡ s))
+    ⊎ ((l.1 ≢ []) × (line_fault l ≡ None) × ((t : List ℕ) × IsLiveStep b s l.1 t e × Costs came before now t × Grew old (t ++ 10 ∷ []) new))
+
+-- from one place of a script to the next, one line was met and passed
+abbrev pub LiveReaches : List ℕ → LiveState → List ℕ → Place → Place → Option (List ℕ) → Option (List ℕ) → WhatCame → ℕ → ℕ → LiveState → Type 0
+LiveReaches b s x p q old new came before now e =
+    (l : List ℕ) × (lines (drop p.at x) ≡ l ∷ lines (drop q.at x)) × (q.number ≡ p.number + 1) × LivePasses b s (q.number, l) old new came before now e
