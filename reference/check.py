@@ -7,7 +7,7 @@ Run it at the top of the repository. It reads sources and pages alone, and takes
 
     names            names that mean two things (`names.py`)
     missing names    names in backticks that are nowhere in the sources (`pages.py`, which says how they are looked for)
-    clauses          labels in `docs/PROMISES.md` that no call beside them has
+    clauses          labels in `docs/PROMISES.md` and `docs/STATEMENTS.md` that no call beside them has
     wrong bodies     those that no page names, names of ones that aren't there, and texts that don't stand once in their file
     sizes            files over 800 lines, and functions over 40, counted between their braces
     words            numbers of papers, and words about how work was organised, which say nothing to a reader

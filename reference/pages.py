@@ -14,6 +14,7 @@ from names import items
 
 ROOTS = ("README.md", "CONTRIBUTING.md", "CHANGELOG.md")
 FOR_USERS = ("README.md", "COLLECTION.md", "COMMANDS.md", "HTTP.md", "INDEX_FILE.md", "QUERY.md", "SERVING.md", "BENCHMARKS.md")
+OF_CLAUSES = (pathlib.Path("docs/PROMISES.md"), pathlib.Path("docs/STATEMENTS.md"))
 SOURCES = (".rt", ".antt", ".py", ".sh", ".js", ".html", ".conf", ".h", ".cpp", ".txt", ".service")
 # Programs, crates with their calls, media types, patterns, pieces of names, and files that a user has: no names of the sources.
 OUTSIDE = {"perf", "curl", "rand_pcg", "advance", "application/x-www-form-urlencoded", ".rt", ".antt", "..Examples.antt", "req",
@@ -149,13 +150,14 @@ def is_missing(name, page, sources):
 
 # ---- Clauses that their calls haven't ----
 def missing_clauses(sources):
-    page, before = pathlib.Path("docs/PROMISES.md"), set()
-    for number, row in table_rows(page.read_text(encoding="utf-8")):
-        cells = [(cell, "") for cell in (row.get("call and clause"), row.get("law")) if cell]
-        cells += [(group, row["crate"].strip("`")) for group in GROUP.findall(row.get("proved, and the clause that says so", ""))]
-        for cell, crate in cells:
-            before, wrong = judge_cell(cell, crate, before, sources)
-            yield from ((f"{page}:{number}", words) for words in wrong)
+    for page in OF_CLAUSES:
+        before = set()
+        for number, row in table_rows(page.read_text(encoding="utf-8")):
+            cells = [(cell, "") for cell in (row.get("call and clause"), row.get("law")) if cell]
+            cells += [(group, row["crate"].strip("`")) for group in GROUP.findall(row.get("proved, and the clause that says so", ""))]
+            for cell, crate in cells:
+                before, wrong = judge_cell(cell, crate, before, sources)
+                yield from ((f"{page}:{number}", words) for words in wrong)
 
 
 def judge_cell(cell, crate, before, sources):

@@ -137,11 +137,11 @@ pieces_are : (w : Weights) → slice_split is_space (weights_text w) ≡ codes "
 pieces_are w =
     slice_split_at is_space (codes "#weights") 32 (title_piece w ++ 32 ∷ (facet_piece w ++ 32 ∷ text_piece w)) (All-from_recursion (λ b. is_space b ≡ false) (codes "#weights") (word_none is_space not_space (codes "#weights") [] refl tt)) refl
     ∙ ap (λ ps. codes "#weights" ∷ ps) (
-      slice_split_at is_space (title_piece w) 32 (facet_piece w ++ 32 ∷ text_piece w) (All-from_recursion (λ b. is_space b ≡ false) (title_piece w) (piece_none is_space not_space (codes "title=") w.title refl)) refl
-      ∙ ap (λ ps. title_piece w ∷ ps) (
-        slice_split_at is_space (facet_piece w) 32 (text_piece w) (All-from_recursion (λ b. is_space b ≡ false) (facet_piece w) (piece_none is_space not_space (codes "facet=") w.facet refl)) refl
-        ∙ ap (λ ps. facet_piece w ∷ ps) (slice_split_none is_space (text_piece w) (All-from_recursion (λ b. is_space b ≡ false) (text_piece w) (piece_none is_space not_space (codes "text=") w.text refl)))
-      )
+    slice_split_at is_space (title_piece w) 32 (facet_piece w ++ 32 ∷ text_piece w) (All-from_recursion (λ b. is_space b ≡ false) (title_piece w) (piece_none is_space not_space (codes "title=") w.title refl)) refl
+    ∙ ap (λ ps. title_piece w ∷ ps) (
+    slice_split_at is_space (facet_piece w) 32 (text_piece w) (All-from_recursion (λ b. is_space b ≡ false) (facet_piece w) (piece_none is_space not_space (codes "facet=") w.facet refl)) refl
+    ∙ ap (λ ps. facet_piece w ∷ ps) (slice_split_none is_space (text_piece w) (All-from_recursion (λ b. is_space b ≡ false) (text_piece w) (piece_none is_space not_space (codes "text=") w.text refl)))
+    )
     )
 
 said_is : (w : Weights) → AreWeights w → weights_said (weights_text w) ≡ Some w

@@ -17,7 +17,7 @@ loop-row-preserved c =
     let t : Post → Bool = is_chosen c.args.words.0 c.args.words.1 c.args.listed.now in
     let below = c.requires.known i none c.loop-row-test.true in
     let inside : p.doc < length best = omega (arith, below, c.loop-row.invariant.len) in
-    let entry : c.entry_of.result ≡ cond (t p) p.score 0 = c.entry_of.ensures ∙ ap (λ b. cond b p.score 0) c.is_chosen-counts.ensures in
+    let entry : c.entry_of.result ≡ cond (t p) p.score 0 = c.entry_of.ensures ∙ ap (λ b. cond b p.score 0) c.are_chosen-counts.ensures in
     let is : c.max.result ≡ max (slice_index best p.doc) (cond (t p) p.score 0) = omega (arith, c.max.ensures, entry) in
     record {
       best = λ seen has. raised_where t seen rows best i p c.max.result c.loop-row-test.true
