@@ -4,6 +4,7 @@ pub mod BuildLemmas
 pub mod CompleteLemmas
 pub mod CommandLineExamples
 pub mod LineTexts
+pub mod LiveLemmas
 pub mod LiveTextsApart
 pub mod MemoryText
 pub mod OverLemmas

@@ -7,6 +7,7 @@ pub mod HitForms
 pub mod Import
 pub mod LiveAnswering
 pub mod LiveRuns
+pub mod LiveSteps
 pub mod LiveTexts
 pub mod Merge
 pub mod Met

@@ -7,27 +7,19 @@
 --   Tells b s x o e             an outcome is put as the text of what the line x, as one that adds or deletes, does in this state; or as that of want
 --                               of memory, and the state stays
 --   TellsAddition b s f doc o e     the same of a document that isn't refused, where f is the refusal of its room
---   LineText b s                a text that a line may have in this state, which is none of a changed file
---   LivePasses b s l old new came .. e    the line l has no bytes, and nothing was put; or it is read, and a text was put for it. It leads to the state e
---   LiveReaches b s x p q old new came .. e    from one place of a script x to the next, a line was met and passed
-use Rattle.std.specs.Prelude.{◌≡◌, ◌≢◌, ◌⊎◌, ℕ, ◌+◌, List, [], ◌∷◌, ◌++◌, drop, length, Option, Some, None}
-use Rattle.std.specs.Str.Lines.{lines}
-use Rattle.cs_base.specs.outside.Outside.{Grew, Held, file_bytes}
+use Rattle.std.specs.Prelude.{◌≡◌, ◌⊎◌, ℕ, List, [], ◌∷◌, ◌++◌, length, Option, Some, None}
+use Rattle.cs_base.specs.outside.Outside.{Held, file_bytes}
 use Rattle.cs_base.specs.declared.content.doc.Doc.{Doc}
 use Rattle.cs_file.specs.Indexes.{StandsFor}
 use Rattle.cs_live.specs.Lives.{AreGoodNow, IsBehind, LiveView, changes_in, next_number}
-use Rattle.cs_model.specs.Outputs.{IsChangedText, MayPut, line_fault, memory_text}
+use Rattle.cs_model.specs.Outputs.{memory_text}
 use Rattle.cs_model_changes.specs.Changes.{Change, now}
 use Rattle.cs_model_index.specs.Sections.{file_corpus, image_of}
-use Rattle.cs_model_live.specs.Courses.{IsLineStep, additions_in}
+use Rattle.cs_model_live.specs.Courses.{additions_in}
 use Rattle.cs_model_live.specs.LiveLines.{LiveLine, by_refusals, line_outcome, outcome_state, outcome_text}
 use Rattle.cs_model_live.specs.LiveStates.{Full, LiveState}
-use Rattle.cs_top.specs.Answering.{Costs}
 use Rattle.cs_top.specs.LiveTexts.{told_bytes}
 use Rattle.cs_top.specs.declared.live.outcomes.Outcome.{Outcome}
-use Rattle.cs_top.specs.declared.lines.Place.{Place}
-use Rattle.cs_top.specs.declared.script.WhatCame.{WhatCame}
-use Rattle.cs_top.specs.declared.script.WhatCame.TheVariants.{Answered}
 
 -- the state is what some changes make of the corpus of the bytes, and so is the index under changes
 pub record IsAt (b : List ℕ) (l : LiveView) (s : LiveState) : Type 0 where
@@ -67,22 +59,3 @@ TellsAddition b s full doc o e =
     let became = by_refusals None full doc in
     ((told_bytes o ≡ outcome_text (file_corpus b) s became ++ 10 ∷ []) × (e ≡ outcome_state (image_of b).weights (file_corpus b) s became))
     ⊎ ((told_bytes o ≡ memory_text ++ 10 ∷ []) × (e ≡ s))
-
--- over the corpus of the bytes
-abbrev pub IsLiveStep : List ℕ → LiveState → List ℕ → List ℕ → LiveState → Type 0
-IsLiveStep b s l t e = IsLineStep (image_of b).weights (file_corpus b) s l t e × ¬ IsChangedText t
-
--- whichever state is behind it
-abbrev pub LineText : List ℕ → LiveState → MayPut
-LineText b s l t = (e : LiveState) × IsLiveStep b s l t e
-
--- the line is passed: it has no bytes, and nothing was put; or it is read, and a text was put for it whole, by what came of it
-abbrev pub LivePasses : List ℕ → LiveState → ℕ × List ℕ → Option (List ℕ) → Option (List ℕ) → WhatCame → ℕ → ℕ → LiveState → Type 0
-LivePasses b s l old new came before now e =
-    ((l.1 ≡ []) × (new ≡ old) × (came ≡ Answered) × (now ≡ before) × (e ≡ s))
-    ⊎ ((l.1 ≢ []) × (line_fault l ≡ None) × ((t : List ℕ) × IsLiveStep b s l.1 t e × Costs came before now t × Grew old (t ++ 10 ∷ []) new))
-
--- from one place of a script to the next, one line was met and passed
-abbrev pub LiveReaches : List ℕ → LiveState → List ℕ → Place → Place → Option (List ℕ) → Option (List ℕ) → WhatCame → ℕ → ℕ → LiveState → Type 0
-LiveReaches b s x p q old new came before now e =
-    (l : List ℕ) × (lines (drop p.at x) ≡ l ∷ lines (drop q.at x)) × (q.number ≡ p.number + 1) × LivePasses b s (q.number, l) old new came before now e
