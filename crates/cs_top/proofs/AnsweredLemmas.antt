@@ -115,7 +115,7 @@ module _ {R : MayPutAll} {all left : List (ℕ × List ℕ)} {old now : Option (
   }
 
   -- what may be put may be said in other words
-  pub as_put : (Q : MayPutAll) → Q h.done h.texts → HasAnswered Q all left old now came before count
+  abbrev pub as_put : (Q : MayPutAll) → Q h.done h.texts → HasAnswered Q all left old now came before count
   as_put Q a = record { done = h.done; texts = h.texts; even = h.even; so_far = h.so_far; fault = h.fault; answered = a; grew = h.grew; tally = h.tally }
 
   all_put : readable_lines left ≡ [] → R (readable_lines all) h.texts × Grew old (put_of h.texts) now

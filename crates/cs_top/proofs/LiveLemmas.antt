@@ -62,7 +62,7 @@ module _ (b : List ℕ) (s : LiveState) (x : List ℕ) (p : Place) {all : List (
   live_goes_on q new met n e (l, is, next, inr (some, read, (t, step, cost, g))) =
       goes_behind x p h (IsToldCourseTo b e) q l t new met n is next some read (course_more b s e h.done h.texts l t h.answered step) cost g
 
-  told : HasAnswered (IsToldCourse b) all (lines_at x p) old now came before count
+  abbrev told : HasAnswered (IsToldCourse b) all (lines_at x p) old now came before count
   told = as_put h (IsToldCourse b) (told_course b s h.done h.texts h.answered)
 
   push : (l t : List ℕ) → LineText b s l t → IsToldCourse b (h.done ++ l ∷ []) (h.texts ++ t ∷ [])
