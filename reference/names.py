@@ -20,7 +20,7 @@ EXCUSED = {
     "CountsRows": "of a run of words in cs_build and of the marks of words in cs_tables: neither crate nor one above names both",
 }
 
-OF_TESTS = ("cs_tests", "cs_unit_tests", "timed")
+OF_TESTS = ("cs_tests", "cs_unit_tests", "cs_system_tests", "timed")
 DEFINITION = re.compile(r"^\s*(?:abbrev pub|unfoldable pub|pub record|pub data|pub)\s+([^\s:{(]+)")
 OPEN_RECORD = re.compile(r"^(?:abbrev |unfoldable )?(?:pub )?(?:record|data)\b")
 ITEM = re.compile(r"^pub(?:\(crate\))? (?:(?P<type>struct|enum|trait|type|union)|(?:const )?fn) (?P<name>\w+)")

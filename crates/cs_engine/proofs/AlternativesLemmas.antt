@@ -3,22 +3,22 @@
 --   of_members          what holds of each row of a list holds of those that are among them
 --   ordered_itself      rows in order, brought into order
 --   ordered_none        no rows
---   united_ordered      of two lists in order their union
---   flat_one, flat_two, flat_more, lists_within     the rows of a list, of two, and of one more; of lists in range
---   of_none, of_one, of_two, of_halves, of_popped, none_popped     of so many lists
+--   union_ordered       a union in order
+--   flat_one, flat_more, lists_within     the rows of a list, and of one more; of lists in range
+--   of_none, of_one, of_popped, none_popped     of so many lists
 --   ListsSoFar          the rows of some lists stand for those of the first chains
 --   lists_begin, lists_go_on, lists_end     before the first chain, behind one more, and behind the last
-use Rattle.std.proofs.Common.{◌≡◌, ℕ, suc, ◌+◌, ◌-◌, ◌<◌, ◌≤◌, ◌||◌, List, [], ◌∷◌, ◌++◌, length, map, take, drop, get_or, refl, sym, ap, ap₂, subst, ◌∙◌, append-nil}
+use Rattle.std.proofs.Common.{◌≡◌, ℕ, suc, ◌+◌, ◌-◌, ◌<◌, ◌≤◌, Bool, true, false, true≢false, cond, Option, Some, None, List, [], ◌∷◌, ◌++◌, length, map, take, drop, get_or, refl, sym, ap, ap₂, subst, ◌∙◌, append-nil}
 use Rattle.std.proofs.Common.{arith, length-take}
 use Rattle.std.specs.Prelude.{flat_map}
-use Rattle.std.specs.List.{All, AllByRecursion, Contains, list_any}
+use Rattle.std.specs.List.{All, AllByRecursion, Any, Contains, find, list_any}
 use Rattle.std.specs.List.Sorted.{IsStrictlySortedBy}
 use Rattle.std.specs.Ordering.{eq_by_cmp}
 use Rattle.std.proofs.lemmas.Grind.{flat_map-append}
 use Rattle.std.proofs.lemmas.List.{length-append, map-append, take-append-drop, take_all, take_more}
-use Rattle.std.proofs.lemmas.List.Elements.{All-append, All-contains, All-filter, All-nil, Contains-append_left, Contains-append_right, Contains-get_or}
+use Rattle.std.proofs.lemmas.List.Elements.{All-append, All-contains, All-nil, All-weaker, Contains-append_left, Contains-append_right, Contains-get_or}
 use Rattle.std.proofs.lemmas.List.Elements.{recursion_from_All}
-use Rattle.std.proofs.lemmas.List.Folds.{list_any-append}
+use Rattle.std.proofs.lemmas.List.Folds.{Any-from_list_any, list_any_at}
 use Rattle.std.proofs.lemmas.List.Sorted.{All-permutation, list_any-IsPermutation}
 use Rattle.cs_base.specs.content.Orders.{AreSorted, by_row}
 use Rattle.cs_base.specs.declared.content.doc.Post.{Post}
@@ -29,7 +29,7 @@ use Rattle.cs_base.proofs.ListsLemmas.{any_through}
 use Rattle.cs_base.proofs.MembersLemmas.{all_then, members_are}
 use Rattle.cs_base.proofs.OrdersLemmas.{by_row_exact, by_row_total}
 use Rattle.cs_cols.specs.declared.cols.Cols.{Cols}
-use Rattle.cs_meet.specs.Filters.{IsUnion, missing}
+use Rattle.cs_meet.specs.Filters.{IsUnion, shares_place}
 use Rattle.cs_model.specs.Answers.{PartRows, rows_of_chain, rows_of_part, union_of}
 use Rattle.cs_model.specs.Corpus.{Corpus}
 use Rattle.cs_model_index.specs.Numbered.{row_of, rows_at}
@@ -38,7 +38,7 @@ use Rattle.cs_engine.specs.IndexReading.{AreWithin, HasRows, IsWithin}
 use Rattle.cs_engine.specs.Packing.{IsOrdered}
 use Rattle.cs_engine.specs.Stocked.{IsStocked, Stock, corpus_in}
 use Rattle.cs_engine.proofs.FoldsLemmas.{part_rows-is}
-use Rattle.cs_engine.proofs.UnionLemmas.{any_united, picked_words}
+use Rattle.cs_engine.proofs.UnionLemmas.{one_post, picked_words}
 use Rattle.cs_engine.proofs.VocabLemmas.{rows_rise}
 
 -- ---- among others
@@ -65,24 +65,55 @@ nothing_sorted = tt
 pub ordered_none : IsOrdered [] []
 ordered_none = ordered_itself [] nothing_sorted
 
-pub united_ordered : (xs ys a b c : List Post) → IsOrdered xs a → IsOrdered ys b → IsUnion a b c → AreSorted c → IsOrdered (xs ++ ys) c
-united_ordered xs ys a b c first second union up = record {
-  sorted = up;
-  among =
-      All-permutation (Contains (xs ++ ys)) (a ++ missing a b) c union
-      (All-append (Contains (xs ++ ys)) a (missing a b) (of_members (Contains (xs ++ ys)) xs a first.among (in_front xs ys))
-      (All-filter _ (Contains (xs ++ ys)) b (of_members (Contains (xs ++ ys)) ys b second.among (in_back xs ys))));
-  alike = λ all up_all inside t.
-      let in_xs = of_members (Contains all) (xs ++ ys) xs (in_front xs ys) inside in
-      let in_ys = of_members (Contains all) (xs ++ ys) ys (in_back xs ys) inside in
-      let all_a = recursion_from_All (Contains all) a (of_members (Contains all) xs a first.among in_xs) in
-      let all_b = recursion_from_All (Contains all) b (of_members (Contains all) ys b second.among in_ys) in
-      sym (list_any-IsPermutation t (a ++ missing a b) c union)
-      ∙ any_united all up_all t a b all_a all_b
-      ∙ list_any-append t a b
-      ∙ ap₂ (λ p q. p || q) (first.alike all up_all in_xs t) (second.alike all up_all in_ys t)
-      ∙ sym (list_any-append t xs ys);
-}
+-- ---- a union
+both_ways : (a b : Bool) → (a ≡ true → b ≡ true) → (b ≡ true → a ≡ true) → a ≡ b
+both_ways true b there back = sym (there refl)
+both_ways false true there back = back refl
+both_ways false false there back = refl
+
+abbrev has_value : Option Post → Bool
+has_value None = false
+has_value (Some x) = true
+
+abbrev value_or : Post → Option Post → Post
+value_or d None = d
+value_or d (Some x) = x
+
+found_in : (f : Post → Bool) (rows : List Post) (p : Post) → find f rows ≡ Some p → Contains rows p
+found_in f [] p is = absurd (true≢false (sym (ap has_value is)))
+found_in f (x ∷ rows) p is =
+    elim (f x) as (λ b. cond b (Some x) (find f rows) ≡ Some p → Contains (x ∷ rows) p) [
+      | true ↦ λ here. (0, omega arith, ap (value_or x) here)
+      | false ↦ λ there. Contains-append_right (x ∷ []) rows p (found_in f rows p there)
+    ] is
+
+union_among : (rows posts : List Post) → IsUnion rows posts → All (Contains rows) posts
+union_among rows posts union = All-weaker (λ p. find (shares_place p) rows ≡ Some p) (Contains rows) (λ p is. found_in (shares_place p) rows p is) posts union.first
+
+module _ (rows posts : List Post) (union : IsUnion rows posts) (t : Post → Bool) where
+  any_back : Any (λ p. t p ≡ true) posts → list_any t rows ≡ true
+  any_back (k, p, lt, at, passed) = any_at t rows p (All-contains (Contains rows) posts p (union_among rows posts union) (k, lt, at)) passed
+    where
+      any_at : (t : Post → Bool) (rows : List Post) (p : Post) → Contains rows p → t p ≡ true → list_any t rows ≡ true
+      any_at t rows p (k, lt, at) passed = list_any_at t rows k p lt (ap t at ∙ passed)
+
+  module _ (all : List Post) (up : AreSorted all) (inside : All (Contains all) rows) where
+    any_there : Any (λ r. t r ≡ true) rows → list_any t posts ≡ true
+    any_there (k, r, lt, at, passed) =
+        from_shared r (k, lt, at) passed (Any-from_list_any (shares_place r) posts (All-contains (λ r. list_any (shares_place r) posts ≡ true) rows r union.placed (k, lt, at)))
+      where
+        from_shared : (r : Post) → Contains rows r → t r ≡ true → Any (λ p. shares_place r p ≡ true) posts → list_any t posts ≡ true
+        from_shared r has passed (j, p, lt, at, shared) =
+            let known = All-contains (Contains rows) posts p (union_among rows posts union) (j, lt, at) in
+            let same : r ≡ p = one_post all up r p (All-contains (Contains all) rows r inside has) (All-contains (Contains all) rows p inside known) shared in
+            list_any_at t posts j p lt (ap t (at ∙ sym same) ∙ passed)
+
+    any_union : list_any t posts ≡ list_any t rows
+    any_union = both_ways (list_any t posts) (list_any t rows) (λ h. any_back (Any-from_list_any t posts h)) (λ h. any_there (Any-from_list_any t rows h))
+
+pub union_ordered : (rows posts : List Post) → IsUnion rows posts → AreSorted posts → IsOrdered rows posts
+union_ordered rows posts union up =
+    record { sorted = up; among = union_among rows posts union; alike = λ all up_all inside t. any_union rows posts union t all up_all inside }
 
 -- ---- lists
 abbrev pub flat : List Cols → List Post
@@ -91,13 +122,10 @@ flat lists = flat_map (λ l. l.posts) lists
 pub flat_one : (l : Cols) → flat (l ∷ []) ≡ l.posts
 flat_one l = append-nil l.posts
 
-pub flat_two : (a b : Cols) → flat (a ∷ b ∷ []) ≡ a.posts ++ b.posts
-flat_two a b = ap (λ xs. a.posts ++ xs) (append-nil b.posts)
-
 pub flat_more : (lists : List Cols) (l : Cols) → flat (lists ++ l ∷ []) ≡ flat lists ++ l.posts
 flat_more lists l = flat_map-append (λ (x : Cols). x.posts) lists (l ∷ []) ∙ ap (λ xs. flat lists ++ xs) (append-nil l.posts)
 
--- ---- the answers of the recursion by halves
+-- ---- one list or none
 sorted_at : (lists : List Cols) (k : ℕ) (l : Cols) → All (λ l. AreSorted l.posts) lists → k < length lists → l ≡ get_or lists k l → AreSorted l.posts
 sorted_at lists k l up lt is = subst (λ (x : Cols). AreSorted x.posts) (sym is) (up k l lt)
 
@@ -113,25 +141,6 @@ of_one (x ∷ []) l posts up few some is same =
     subst (IsOrdered (flat (x ∷ []))) (sym same)
     (subst (λ rows. IsOrdered rows l.posts) (sym (flat_one x ∙ ap (λ (y : Cols). y.posts) (sym is))) (ordered_itself l.posts own))
 of_one (x ∷ y ∷ lists) l posts up few some is same = absurd (omega (arith, few))
-
-pub of_two : (lists : List Cols) (a b : Cols) (c : List Post) → All (λ l. AreSorted l.posts) lists → length lists < 3 → 2 ≤ length lists → a ≡ get_or lists 0 a
-    → b ≡ get_or lists 1 b → IsUnion a.posts b.posts c → AreSorted c → IsOrdered (flat lists) c
-of_two [] a b c up few some is_a is_b union sorted = absurd (omega (arith, some))
-of_two (x ∷ []) a b c up few some is_a is_b union sorted = absurd (omega (arith, some))
-of_two (x ∷ y ∷ []) a b c up few some is_a is_b union sorted =
-    let first = ordered_itself a.posts (sorted_at (x ∷ y ∷ []) 0 a up (omega arith) is_a) in
-    let second = ordered_itself b.posts (sorted_at (x ∷ y ∷ []) 1 b up (omega arith) is_b) in
-    subst (λ rows. IsOrdered rows c)
-    (sym (flat_two x y ∙ ap₂ (λ (p q : Cols). p.posts ++ q.posts) (sym is_a) (sym is_b)))
-    (united_ordered a.posts b.posts a.posts b.posts c first second union sorted)
-of_two (x ∷ y ∷ z ∷ lists) a b c up few some is_a is_b union sorted = absurd (omega (arith, few))
-
-pub of_halves : (lists front back : List Cols) (n : ℕ) (a b c : List Post) → front ≡ take n lists → back ≡ drop n lists → IsOrdered (flat front) a
-    → IsOrdered (flat back) b → IsUnion a b c → AreSorted c → IsOrdered (flat lists) c
-of_halves lists front back n a b c is_front is_back first second union sorted =
-    subst (λ rows. IsOrdered rows c)
-    (sym (flat_map-append (λ (x : Cols). x.posts) front back) ∙ ap flat (ap₂ (λ x y. x ++ y) is_front is_back ∙ take-append-drop n lists))
-    (united_ordered (flat front) (flat back) a b c first second union sorted)
 
 -- a list that was taken out alone, or none
 pub of_popped : (lists rest : List Cols) (l : Cols) → All (λ l. AreSorted l.posts) lists → length lists ≤ 1 → lists ≡ rest ++ l ∷ [] → IsOrdered (flat lists) l.posts

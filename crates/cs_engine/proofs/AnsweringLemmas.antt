@@ -12,7 +12,7 @@ use Rattle.std.specs.List.Sorted.{IsStrictlySortedBy}
 use Rattle.std.proofs.lemmas.List.{append_assoc, get_or_default, length-map}
 use Rattle.std.proofs.lemmas.List.Elements.{All-weaker, All-take, All-drop, All-map, recursion_from_All}
 use Rattle.cs_base.specs.content.Members.{members_in}
-use Rattle.cs_base.specs.content.Orders.{AreDocs, by_rank}
+use Rattle.cs_base.specs.content.Orders.{AreByDoc, AreDocs, by_rank}
 use Rattle.cs_base.specs.declared.content.doc.Base.{Base}
 use Rattle.cs_base.specs.declared.content.doc.Post.{Post}
 use Rattle.cs_base.specs.declared.content.doc.Scored.{Scored}
@@ -33,10 +33,11 @@ use Rattle.cs_engine.specs.IndexReading.{AreWithin, IsWithin, HasRows}
 use Rattle.cs_engine.specs.Sources.{IsSource, SourceView, seen}
 use Rattle.cs_engine.specs.Steps.{AreFound, IsBaseOf, IsHitOf}
 use Rattle.cs_model_index.specs.Numbered.{rows_at}
-use Rattle.cs_engine.specs.Stocked.{Stock, corpus_in, base_docs, facet_at, base_hits, named_rows, shown_at, title_at}
+use Rattle.cs_engine.specs.Stocked.{Stock, corpus_in, base_docs, stock_docs, facet_at, base_hits, named_rows, present_docs, shown_at, title_at}
 use Rattle.cs_engine.proofs.FoundLemmas.{docs_rise}
 use Rattle.cs_engine.proofs.ReplyLemmas.{facet_kept, first_there, reply_made, table_total, words_shown}
 use Rattle.cs_engine.proofs.PartSteps.{listed_in, listed_told}
+use Rattle.cs_engine.proofs.PresentLemmas.{docs_ascend, docs_below}
 
 module _ (v : SourceView) (is : IsSource v) where
   pub few_docs : (posts : List Post) → AreWithin (seen v) posts → All (λ p. p.doc < 2 ^ 20) posts
@@ -55,12 +56,17 @@ module _ (v : SourceView) (is : IsSource v) where
       → All (λ c. c.word < length v.words) first
   first_in posts w cut first are = first_there v.words is.ascending posts (words_there posts w) cut first are
 
-  pub shown_in : (bound : ℕ) (b : Base) (n : ℕ) (all : List Scored) (o h : ℕ) → n ≡ v.docs → all ≡ base_hits n b → IsBaseOf v.docs bound b
+  abbrev there : List ℕ
+  there = present_docs v.present
+
+  hits_listed : (bound : ℕ) (b : Base) → IsBaseOf v.docs bound b → AreByDoc (base_hits there b) × All (IsHitOf v.docs bound) (base_hits there b)
+  hits_listed bound b fits = listed_in v.docs bound there (docs_ascend v.present) (docs_below v.present is.long) b fits
+
+  pub shown_in : (bound : ℕ) (b : Base) (all : List Scored) (o h : ℕ) → all ≡ base_hits (present_docs v.present) b → IsBaseOf v.docs bound b
       → (first : List Scored) → first ≡ take h (drop o (members_in by_rank all)) → All (λ h. h.doc < v.docs) first
-  shown_in bound b n all o h same are fits first is_first =
+  shown_in bound b all o h are fits first is_first =
       let P : Scored → Type 0 = λ h. h.doc < v.docs in
-      let each : All P all = subst (All P) (sym (are ∙ ap (λ m. base_hits m b) same))
-      (All-weaker (IsHitOf v.docs bound) P (λ x at. at.doc) (base_hits v.docs b) (listed_in v.docs bound b fits).1) in
+      let each : All P all = subst (All P) (sym are) (All-weaker (IsHitOf v.docs bound) P (λ x at. at.doc) (base_hits there b) (hits_listed bound b fits).1) in
       subst (All P) (sym is_first) (All-take P h (drop o (members_in by_rank all))
       (All-drop P o (members_in by_rank all) (All-members by_rank by_rank_total by_rank_exact P all each)))
 
@@ -76,14 +82,14 @@ module _ (v : SourceView) (is : IsSource v) where
   docs_few n [] up h = omega arith
   docs_few n (d ∷ ds) up h = let few = ascend_few 0 n d ds (omega arith) up (recursion_from_All (λ x. x < n) (d ∷ ds) h) in omega (arith, few)
 
-  pub hits_few : (bound : ℕ) (b : Base) (n : ℕ) (all : List Scored) → n ≡ v.docs → all ≡ base_hits n b → IsBaseOf v.docs bound b → length all ≤ 2 ^ 20
-  hits_few bound b n all same are fits =
-      let ls = base_hits v.docs b in
-      let in_all = listed_in v.docs bound b fits in
+  pub hits_few : (bound : ℕ) (b : Base) (all : List Scored) → all ≡ base_hits (present_docs v.present) b → IsBaseOf v.docs bound b → length all ≤ 2 ^ 20
+  hits_few bound b all are fits =
+      let ls = base_hits there b in
+      let in_all = hits_listed bound b fits in
       let few = docs_few v.docs (map (λ h. h.doc) ls) (docs_rise ls in_all.0)
       (All-map (λ d. d < v.docs) (λ h. h.doc) ls (All-weaker (IsHitOf v.docs bound) (λ h. h.doc < v.docs) (λ x at. at.doc) ls in_all.1)) in
       let most = is.few_docs in
-      omega (arith, few, most, length-map ls (λ (h : Scored). h.doc), ap length (are ∙ ap (λ m. base_hits m b) same))
+      omega (arith, few, most, length-map ls (λ (h : Scored). h.doc), ap length are)
 
 module _ (b : List ℕ) (v : SourceView) (stands : StandsFor b v.index) (is : IsSource v) where
   abbrev s : Stock
@@ -102,13 +108,13 @@ module _ (b : List ℕ) (v : SourceView) (stands : StandsFor b v.index) (is : Is
   pub total_told : (posts : List Post) → AreWithin (seen v) posts → length (post_table posts) ≡ length (table_of (rows_at s.words posts))
   total_told posts w = table_total s (is.told b stands).stocked posts (own_words posts w)
 
-  pub facet_told : (base : Base) (cut : ℕ) (name copied : List ℕ) (rows posts : List Post) (n : ℕ) (words : List Shown) → copied ≡ name
-      → HasRows s (named_rows s name) rows → n ≡ v.docs → posts ≡ keep_docs rows (base_docs n base)
+  pub facet_told : (base : Base) (cut : ℕ) (name copied : List ℕ) (rows posts : List Post) (words : List Shown) → copied ≡ name
+      → HasRows s (named_rows s name) rows → posts ≡ keep_docs rows (base_docs (present_docs v.present) base)
       → words ≡ map shown_of (take cut (table_of (rows_at s.words posts)))
       → ◌≡◌ {A = FacetShown} (record { name = copied; table = words }) (facet_at s base cut name)
-  facet_told base cut name copied rows posts n words same has docs are words_is =
+  facet_told base cut name copied rows posts words same has are words_is =
       let of_rows = facet_kept s (is.told b stands).stocked base name rows posts has.is
-      (are ∙ ap (λ m. keep_docs rows (base_docs m base)) (docs ∙ (is.told b stands).docs)) in
+      (are ∙ ap (λ ds. keep_docs rows (base_docs ds base)) (is.told b stands).docs) in
       ap (λ m. let f : FacetShown = record { name = m; table = words } in f) same
       ∙ ap (λ (t : List Shown). let f : FacetShown = record { name = name; table = t } in f)
       (words_is ∙ ap (λ rs. map shown_of (take cut (table_of rs))) of_rows)
@@ -124,13 +130,13 @@ module _ (b : List ℕ) (v : SourceView) (stands : StandsFor b v.index) (is : Is
       → h ≡ map (hit_shown (corpus_in s)) (take r.hits (drop r.offset (members_in by_rank all)))
       → tc ≡ length (post_table posts)
       → th ≡ length all
-      → (n : ℕ) → n ≡ v.docs → all ≡ base_hits n hits
+      → all ≡ base_hits (present_docs v.present) hits
       → ◌≡◌ {A = Reply} (record { completions = c; facets = f; hits = h; total_completions = tc; total_hits = th }) (reply_of (corpus_in s) r)
-  reply_told r hits posts found w c f h tc th all c_is f_is h_is tc_is th_is n docs are =
+  reply_told r hits posts found w c f h tc th all c_is f_is h_is tc_is th_is are =
       let k = corpus_in s in
       let ps = parts_of k r.query in
-      let here : all ≡ base_hits (length s.titles) hits = are ∙ ap (λ m. base_hits m hits) (docs ∙ (is.told b stands).docs) in
-      let lists : base_hits (length s.titles) hits ≡ scored_hits k ps = listed_told s (length s.titles) hits refl ∙ ap (kept.listed k) found.base
+      let here : all ≡ base_hits (stock_docs s) hits = are ∙ ap (λ ds. base_hits ds hits) (is.told b stands).docs in
+      let lists : base_hits (stock_docs s) hits ≡ scored_hits k ps = listed_told s hits ∙ ap (kept.listed k) found.base
       ∙ listed_base k ps in
       reply_made s (is.told b stands).stocked ps hits posts lists found.rows r refl c f h tc th
       c_is f_is (h_is ∙ ap (λ hs. map (hit_shown k) (take r.hits (drop r.offset (members_in by_rank hs)))) here)

@@ -33,14 +33,15 @@ use Rattle.cs_engine.specs.Loose.{HasBestScores, hits_in}
 use Rattle.cs_engine.specs.Plain.{AreWordsOf}
 use Rattle.cs_engine.specs.IndexReading.{AreWithin, IsWithin, run_of}
 use Rattle.cs_engine.specs.Sources.{IsSource, SourceView, seen}
-use Rattle.cs_engine.specs.Steps.{IsBaseOf, IsHitOf, most, posts_after}
-use Rattle.cs_engine.specs.Stocked.{corpus_in, is_between}
+use Rattle.cs_engine.specs.Keeping.{entry_with}
+use Rattle.cs_engine.specs.Steps.{IsBaseOf, IsHitOf, most}
+use Rattle.cs_engine.specs.Stocked.{corpus_in, stock_docs, is_between, base_posts}
 use Rattle.cs_engine.proofs.BestLemmas.{alike_best, hits_are}
-use Rattle.cs_engine.proofs.CountingLemmas.{flat_more, kept_listed}
+use Rattle.cs_engine.proofs.CountingLemmas.{flat_more}
 use Rattle.cs_engine.proofs.FoundLemmas.{is_excluded}
 use Rattle.cs_engine.proofs.PartSteps.{AreHitsBehind, base_small, step_told}
 use Rattle.cs_engine.proofs.RowsInRange.{kept_within}
-use Rattle.cs_engine.proofs.OverSources.{chosen_alike, source_within}
+use Rattle.cs_engine.proofs.OverSources.{chosen_alike, listed_asked, source_within}
 
 -- ---- scores over a base
 pub none_added : (found : List Scored) → map (with_base base.All) found ≡ found
@@ -100,18 +101,18 @@ module _ (b : List ℕ) (v : SourceView) (stands : StandsFor b v.index) (is : Is
   best_found first last best met has =
       alike_best (run first last ++ filter (is_chosen lo hi listed) v.held) rows best (chosen_alike b v stands is first last lo hi listed met) has
 
-  module _ (hits : Base) (lists : AreListed v.docs hits listed) where
+  module _ (hits : Base) (lists : AreListed v.present hits listed) where
     asked_within : AreWithin (seen v) asked
     asked_within = kept_within (seen v) (is_between lo hi) (v.stock b).posts (source_within b v stands is)
 
     pub rows_are : filter (in_listed listed)
-        (filter (is_between lo hi) (v.stock b).posts) ≡ (posts_after v.docs hits false (filter (is_between lo hi) (v.stock b).posts)).rows
-    rows_are = kept_listed (seen v) hits listed asked lists asked_within
+        (filter (is_between lo hi) (v.stock b).posts) ≡ base_posts hits (filter (is_between lo hi) (v.stock b).posts)
+    rows_are = listed_asked b v stands is lo hi hits listed lists
 
     pub scored_are : (best : List ℕ) (next : List Scored) → length best ≡ v.docs
         → HasBestScores (filter (in_listed listed) (filter (is_between lo hi) (v.stock b).posts)) best
         → next ≡ map (with_base hits) (hits_in 0 best)
-        → next ≡ doc_scores hits (posts_after v.docs hits false (filter (is_between lo hi) (v.stock b).posts)).rows
+        → next ≡ doc_scores hits (base_posts hits (filter (is_between lo hi) (v.stock b).posts))
     scored_are best next long has next_is =
         let w = kept_within (seen v) (in_listed listed) asked asked_within in
         let known : All (λ p. p.doc < length best) rows = All-weaker (IsWithin v.docs (length v.words)) (λ p. p.doc < length best)
@@ -122,14 +123,14 @@ module _ (b : List ℕ) (v : SourceView) (stands : StandsFor b v.index) (is : Is
 -- ---- the hits behind the part
 pub behind_words : (b : List ℕ) (v : SourceView) → StandsFor b v.index → IsSource v → (x : Part) (hits : Base) (lo hi : ℕ) (next : List Scored)
     → (out-Part x).excluded ≡ false → AreWordsOf v (met_of_part (division v.index) x) (λ k. (rows_of_part k x).rows) lo hi
-    → next ≡ doc_scores hits (posts_after v.docs hits false (filter (is_between lo hi) (v.stock b).posts)).rows
+    → next ≡ doc_scores hits (base_posts hits (filter (is_between lo hi) (v.stock b).posts))
     → AreHitsBehind (v.stock b) hits (rows_of_part (corpus_in (v.stock b)) x) (base.Listed next)
 behind_words b v stands is x hits lo hi next positive asks next_is =
     let s = v.stock b in
     let posts = filter (is_between lo hi) s.posts in
     let excluded = is_excluded s x ∙ positive in
     record {
-      e = posts_after v.docs hits false posts;
-      step = step_told s v.docs hits (rows_of_part (corpus_in s) x) posts (is.told b stands).docs (asks.posts b stands).is false excluded;
-      are = ap base.Listed next_is ∙ ap (λ x. if not x then base.Listed (doc_scores hits (posts_after v.docs hits false posts).rows) else hits) (sym excluded);
+      e = entry_with hits (base_posts hits posts);
+      step = step_told s (is.told b stands).stocked (stock_docs s) refl hits (rows_of_part (corpus_in s) x) posts (asks.posts b stands) false excluded;
+      are = ap base.Listed next_is ∙ ap (λ x. if not x then base.Listed (doc_scores hits (base_posts hits posts)) else hits) (sym excluded);
     }

@@ -21,7 +21,7 @@ use Rattle.cs_engine.specs.Blockwise.{rows_within}
 use Rattle.cs_engine.specs.Counting.{counted_rows}
 use Rattle.cs_engine.specs.IndexReading.{stock_of}
 use Rattle.cs_engine.specs.Stocked.{is_between}
-use Rattle.cs_engine.proofs.CountingLemmas.{all_listed, counted_long, everywhere, flat_more}
+use Rattle.cs_engine.proofs.CountingLemmas.{all_listed, counted_long, flat_more}
 
 -- ---- how many there are
 every_one : (t : Post → Bool) (xs : List Post) → AllByRecursion (λ p. t p ≡ true) xs → length (filter t xs) ≡ length xs
@@ -78,5 +78,5 @@ module _ (b : List ℕ) (i : IndexView) (stands : StandsFor b i) (is : IsIndex i
       → MAX_ENTRY_SIZE < length (filter (is_between lo hi) (stock_of b).posts)
   many_all first last rows met lt h =
       let all = replicate i.docs true in
-      let long = counted_long b i stands is first last lo hi all met ∙ ap length (all_listed b i stands is lo hi all (everywhere i.docs all refl)) in
+      let long = counted_long b i stands is first last lo hi all met ∙ ap length (all_listed b i stands is lo hi) in
       omega (arith, lt, h, long)

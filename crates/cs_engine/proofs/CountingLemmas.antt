@@ -1,33 +1,31 @@
 -- The rows of a range of words, counted block by block.
 --
---   everywhere           All lists each document
+--   listed_all           All lists each document that is there
 --   flat_more            one block more
 --   whole_apart          no post of the blocks stands twice
 --   countable            the rows that are counted are countable
 --   counted_alike, counted_long     they have the members of those asked for, and are as many
 --   kept_listed, all_listed     the rows in listed documents
-use Rattle.std.proofs.Common.{◌≡◌, ◌≢◌, ℕ, zero, suc, ◌+◌, ◌-◌, ◌<◌, ◌≤◌, ◌==◌, ◌&&◌, ◌||◌, Bool, true, false, cond, List, [], ◌∷◌, ◌++◌, length, get_or}
-use Rattle.std.proofs.Common.{take, drop, map, replicate, refl, sym, ap, ap₂, subst, ◌∙◌, arith, append-nil, length-take, length-drop, get_or-drop}
+use Rattle.std.proofs.Common.{◌≡◌, ℕ, suc, ◌+◌, ◌-◌, ◌<◌, ◌≤◌, ◌==◌, ◌&&◌, Bool, true, false, cond, List, [], ◌∷◌, ◌++◌, length, get_or}
+use Rattle.std.proofs.Common.{take, drop, replicate, refl, sym, ap, ap₂, subst, ◌∙◌, arith, append-nil, length-take, length-drop, get_or-drop}
 use Rattle.std.proofs.Common.{get_or-take}
 use Rattle.std.specs.Prelude.{All, filter, flat_map, nat_lt}
 use Rattle.std.specs.List.{list_any}
 use Rattle.std.specs.List.Sorted.{IsStrictlySortedBy}
-use Rattle.std.proofs.lemmas.Bool.{eq-eqb, ltb-true, ltb-false}
+use Rattle.std.proofs.lemmas.Bool.{ltb-true, ltb-false}
 use Rattle.std.proofs.lemmas.Bool.Decides.{nat_tests}
 use Rattle.std.proofs.lemmas.Grind.{flat_map-append}
-use Rattle.std.proofs.lemmas.List.{take_all, take_more, get_or-replicate, length-replicate}
+use Rattle.std.proofs.lemmas.List.{take_all, take_more, get_or-replicate}
 use Rattle.std.proofs.lemmas.List.Elements.{All-nil, All-head, All-tail, All-append, All-filter, All-weaker, filter-append, recursion_from_All}
-use Rattle.std.proofs.lemmas.List.Folds.{list_any-append}
 use Rattle.std.proofs.lemmas.List.Kept.{IsStrictlySortedBy-filter}
 use Rattle.cs_base.specs.content.Orders.{AreSorted, by_place}
 use Rattle.cs_base.specs.declared.content.doc.Base.{Base}
 use Rattle.cs_base.specs.declared.content.doc.Base.TheVariants as base
 use Rattle.cs_base.specs.declared.content.doc.Post.{Post}
-use Rattle.cs_base.specs.declared.content.doc.Scored.{Scored}
 use Rattle.cs_base.specs.declared.content.limits.TheConstants.{MAX_DOCS}
 use Rattle.cs_base.specs.declared.index.block.BlockHead.{BlockHead}
 use Rattle.cs_base.proofs.MembersLemmas.{any_listed, all_then}
-use Rattle.cs_base.proofs.ListsLemmas.{filter_twice, filter_alike}
+use Rattle.cs_base.proofs.ListsLemmas.{all_stay, filter_twice, filter_alike}
 use Rattle.cs_file.specs.Indexes.{IndexView, IsIndex, StandsFor, AreMet, block_posts}
 use Rattle.cs_file.proofs.HeadsLemmas.{heads_rise}
 use Rattle.cs_file.proofs.PostsLemmas.{block_words, posts_between}
@@ -40,46 +38,21 @@ use Rattle.cs_tables.specs.TableListings.{with_word}
 use Rattle.cs_tables.specs.WordCounts.{AreCountable, is_chosen}
 use Rattle.cs_engine.specs.Counting.{AreListed, counted_rows, in_listed}
 use Rattle.cs_engine.specs.IndexReading.{AreWithin, IsWithin, by_post, stock_of}
-use Rattle.cs_engine.specs.Stocked.{base_docs, every, is_between, IsKnown}
+use Rattle.cs_engine.specs.Steps.{with_no_score}
+use Rattle.cs_engine.specs.Stocked.{base_docs, is_between, present_docs}
 use Rattle.cs_engine.proofs.AlikeLemmas.{any_filter}
 use Rattle.cs_engine.proofs.DistinctLemmas.{Apart, apart_append, apart_none, apart_sorted, long_alike}
-use Rattle.cs_engine.proofs.FoundLemmas.{all_kept, every_more}
+use Rattle.cs_engine.proofs.HitsLemmas.{own_docs}
+use Rattle.cs_engine.proofs.PresentLemmas.{is_present}
 use Rattle.cs_engine.proofs.RowsInRange.{kept_within}
-use Rattle.cs_engine.proofs.StockLemmas.{by_post_total, by_post_exact, docs_are, stocked, within_block, words_are}
+use Rattle.cs_engine.proofs.StockLemmas.{by_post_total, by_post_exact, stock_fits, stocked, within_block}
 
 -- ---- which documents are listed
-abbrev doc_of : Scored → ℕ
-doc_of h = h.doc
-
-listed_every : (n d : ℕ) → d < n → is_listed (map doc_of (every n)) d ≡ true
-listed_every zero d lt = absurd (omega (arith, lt))
-listed_every (suc n) d lt =
-    let one : suc n ≡ n + 1 = omega arith in
-    ap (λ m. is_listed (map doc_of (every m)) d) one
-    ∙ ap (λ hs. is_listed (map doc_of hs) d) (every_more n)
-    ∙ ap (λ ds. is_listed ds d) (map_two (every n) n)
-    ∙ list_any-append (λ e. e == d) (map doc_of (every n)) (n ∷ [])
-    ∙ elim (n == d) as (λ b. n == d ≡ b → (list_any (λ e. e == d) (map doc_of (every n)) || (b || false)) ≡ true) [
-      | true ↦ λ e. or_true (list_any (λ e. e == d) (map doc_of (every n)))
-      | false ↦ λ e. or_first _ (listed_every n d (let apart : n ≢ d = λ s. absurd (let t = eq-eqb n d s in cc) in omega (arith, lt, apart)))
-    ] refl
-  where
-    map_two : (hs : List Scored) (n : ℕ) → map doc_of (hs ++ (record { doc = n; score = 0 }) ∷ []) ≡ map doc_of hs ++ n ∷ []
-    map_two [] n = refl
-    map_two (h ∷ hs) n = ap (λ l. h.doc ∷ l) (map_two hs n)
-
-    or_true : (b : Bool) → (b || (true || false)) ≡ true
-    or_true true = refl
-    or_true false = refl
-
-    or_first : (b : Bool) → b ≡ true → (b || (false || false)) ≡ true
-    or_first true e = refl
-    or_first false e = e
-
-pub everywhere : (docs : ℕ) (all : List Bool) → all ≡ replicate docs true → AreListed docs base.All all
-everywhere docs all are = record {
-  long = ap length are ∙ length-replicate docs true;
-  each = λ d lt. ap (λ l. get_or l d false) are ∙ get_or-replicate docs d true false lt ∙ sym (listed_every docs d lt);
+pub listed_all : (present all : List Bool) → all ≡ present → AreListed present base.All all
+listed_all present all are = record {
+  long = ap length are;
+  each = λ d lt. ap (λ l. get_or l d false) are ∙ sym (is_present present d)
+      ∙ ap (λ ds. is_listed ds d) (sym (own_docs with_no_score (λ x. refl) (present_docs present)));
 }
 
 -- ---- one block
@@ -178,11 +151,13 @@ flat_filter t [] = refl
 flat_filter t (b ∷ bs) = ap (λ x. filter t b ++ x) (flat_filter t bs) ∙ sym (filter-append t b (flat_map (λ block. block) bs))
 
 -- posts in listed documents
-pub kept_listed : (i : IndexView) (base : Base) (listed : List Bool) (posts : List Post) → AreListed i.docs base listed → AreWithin i posts
-    → filter (in_listed listed) posts ≡ keep_docs posts (base_docs i.docs base)
-kept_listed i base listed posts has w =
-    filter_alike (in_listed listed) (λ p. is_listed (base_docs i.docs base) p.doc) posts
-    (all_then (IsWithin i.docs (length i.words)) (λ p. in_listed listed p ≡ is_listed (base_docs i.docs base) p.doc) (λ p h. has.each p.doc h.doc) posts
+pub kept_listed : (i : IndexView) (present : List Bool) → length present ≡ i.docs → (base : Base) (listed : List Bool) (posts : List Post)
+    → AreListed present base listed → AreWithin i posts → filter (in_listed listed) posts ≡ keep_docs posts (base_docs (present_docs present) base)
+kept_listed i present long base listed posts has w =
+    let docs = base_docs (present_docs present) base in
+    filter_alike (in_listed listed) (λ p. is_listed docs p.doc) posts
+    (all_then (IsWithin i.docs (length i.words)) (λ p. in_listed listed p ≡ is_listed docs p.doc)
+    (λ p h. let doc = h.doc in has.each p.doc (omega (arith, doc, long))) posts
     (recursion_from_All (IsWithin i.docs (length i.words)) posts w.within))
 
 module _ (b : List ℕ) (i : IndexView) (stands : StandsFor b i) (is : IsIndex i) where
@@ -269,29 +244,20 @@ module _ (b : List ℕ) (i : IndexView) (stands : StandsFor b i) (is : IsIndex i
 
   -- the posts that are read of an index file are in its range
   pub stock_within : AreWithin i (stock_of b).posts
-  stock_within =
-      let st = stocked b i stands is in
-      let docs = docs_are b i stands is in
-      let words = ap length (words_are b i stands is) in
-      record {
-        sorted = st.sorted;
-        within = All-weaker (IsKnown (stock_of b)) (IsWithin i.docs (length i.words))
-            (λ x h.
-            let doc = h.doc in
-            let word = h.word in
-            record { doc = omega (arith, doc, docs); word = omega (arith, word, words); score_from = h.score_from; score_to = h.score_to })
-            (stock_of b).posts st.known;
-      }
+  stock_within = record { sorted = (stocked b i stands is).sorted; within = stock_fits b i stands is }
 
   -- of all documents each post is in one
-  pub all_listed : (lo hi : ℕ) (all : List Bool) → AreListed i.docs base.All all
-      → filter (in_listed all) (filter (is_between lo hi) (stock_of b).posts) ≡ filter (is_between lo hi) (stock_of b).posts
-  all_listed lo hi all has =
+  pub all_listed : (lo hi : ℕ)
+      → filter (in_listed (replicate i.docs true)) (filter (is_between lo hi) (stock_of b).posts) ≡ filter (is_between lo hi) (stock_of b).posts
+  all_listed lo hi =
+      let all = replicate i.docs true in
       let asked = filter (is_between lo hi) (stock_of b).posts in
       let w = kept_within i (is_between lo hi) (stock_of b).posts stock_within in
-      kept_listed i base.All all asked has w ∙ sym (all_kept i.docs asked
-      (All-weaker (IsWithin i.docs (length i.words)) (λ p. p.doc < i.docs) (λ p h. h.doc) asked w.within))
+      filter_alike (in_listed all) (λ p. true) asked
+      (all_then (IsWithin i.docs (length i.words)) (λ p. in_listed all p ≡ true) (λ p h. get_or-replicate i.docs p.doc true false h.doc) asked
+      (recursion_from_All (IsWithin i.docs (length i.words)) asked w.within))
+      ∙ all_stay asked
 
 -- a vector whose slice was lent lists the same documents
-pub listed_in : (i : IndexView) (hits : Base) (items lent : List Bool) {docs : ℕ} → docs ≡ i.docs → AreListed docs hits items → lent ≡ items → AreListed i.docs hits lent
-listed_in i hits items lent same lists is = subst (AreListed i.docs hits) (sym is) (subst (λ n. AreListed n hits items) same lists)
+pub listed_in : {present : List Bool} (hits : Base) (items lent : List Bool) → AreListed present hits items → lent ≡ items → AreListed present hits lent
+listed_in {present} hits items lent lists is = subst (AreListed present hits) (sym is) lists

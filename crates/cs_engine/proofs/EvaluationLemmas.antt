@@ -46,7 +46,7 @@ use Rattle.cs_model_kept.proofs.EntryLemmas.{ends_more, extended_is, hits_are, l
 use Rattle.cs_engine.specs.IndexReading.{AreWithin, HasRows}
 use Rattle.cs_engine.specs.Steps.{IsStep, docs_after, posts_hits}
 use Rattle.cs_model_index.specs.Numbered.{rows_at}
-use Rattle.cs_engine.specs.Stocked.{Stock, corpus_in, base_docs, linked_posts, IsKnown, IsPicked, IsStocked}
+use Rattle.cs_engine.specs.Stocked.{Stock, corpus_in, base_docs, base_hits, stock_docs, linked_posts, IsKnown, IsPicked, IsStocked}
 use Rattle.cs_engine.proofs.AtomsLemmas.{picked_again}
 use Rattle.cs_engine.proofs.RowsInRange.{kept_within}
 use Rattle.cs_engine.proofs.FoldsLemmas.{part_rows-is}
@@ -126,9 +126,10 @@ hits_by s ps positive e ends is = hits_told s.words positive e ∙ ap (λ b. kep
     ∙ ap (kept.hits_of (kept.ends_positive ps)) is ∙ hits_are (corpus_in s) ps
 
 -- and their documents
-pub docs_by : (s : Stock) (n : ℕ) (ps : List PartRows) (b : Base) → n ≡ length s.titles → b ≡ base_of (corpus_in s) ps → base_docs n b ≡ hits (corpus_in s) ps
-docs_by s n ps b same is =
-    ap (map (λ h. h.doc)) (listed_told s n b same ∙ ap (kept.listed (corpus_in s)) is ∙ listed_base (corpus_in s) ps)
+pub docs_by : (s : Stock) (ds : List ℕ) (ps : List PartRows) (b : Base) → ds ≡ stock_docs s → b ≡ base_of (corpus_in s) ps
+    → base_docs ds b ≡ hits (corpus_in s) ps
+docs_by s ds ps b same is =
+    ap (map (λ h. h.doc)) (ap (λ xs. base_hits xs b) same ∙ listed_told s b ∙ ap (kept.listed (corpus_in s)) is ∙ listed_base (corpus_in s) ps)
     ∙ own_docs (scored ps) (λ d. refl) (hits (corpus_in s) ps)
 
 module _ (s : Stock) (ps : List Part) where
@@ -258,18 +259,20 @@ module _ (s : Stock) (ps : List Part) where
   abbrev kd : Corpus
   kd = corpus_in s
 
-  abbrev pub DocsSoFar : ℕ → ℕ → Base → Type 0
-  DocsSoFar n i b = base_docs n b ≡ hits kd (map (rows_of_part kd) (take i ps))
+  abbrev pub DocsSoFar : List ℕ → ℕ → Base → Type 0
+  DocsSoFar ds i b = base_docs ds b ≡ hits kd (map (rows_of_part kd) (take i ps))
 
-  pub docs_begin : (n : ℕ) → n ≡ length s.titles → DocsSoFar n 0 base.All
-  docs_begin n same = docs_by s n [] base.All same refl
+  pub docs_begin : (ds : List ℕ) → ds ≡ stock_docs s → DocsSoFar ds 0 base.All
+  docs_begin ds same = docs_by s ds [] base.All same refl
 
-  pub docs_go_on : (n i : ℕ) (x : Part) → i < length ps → x ≡ get_or ps i x → (was now : Base) (posts : List Post) → DocsSoFar n i was
-      → HasRows s (rows_of_part kd x).rows posts → base_docs n now ≡ docs_after n was (out-Part x).excluded posts → DocsSoFar n (i + 1) now
-  docs_go_on n i x l at was now posts so_far has is =
+  pub docs_go_on : IsStocked s → (ds : List ℕ) → ds ≡ stock_docs s → (i : ℕ) (x : Part) → i < length ps → x ≡ get_or ps i x → (was now : Base) (posts : List Post)
+      → DocsSoFar ds i was → HasRows s (rows_of_part kd x).rows posts → base_docs ds now ≡ docs_after ds was (out-Part x).excluded posts
+      → DocsSoFar ds (i + 1) now
+  docs_go_on stocked ds same i x l at was now posts so_far has is =
       let done = map (rows_of_part kd) (take i ps) in
-      is ∙ docs_more s done (rows_of_part kd x) posts has.is n was so_far (out-Part x).excluded (is_excluded s x)
+      is ∙ docs_more s stocked ds same done (rows_of_part kd x) posts has was so_far (out-Part x).excluded (is_excluded s x)
       ∙ ap (hits kd) (sym (read_more kd ps i x l at))
 
-  pub docs_end : (q : Query) (n i : ℕ) (b : Base) → ps ≡ (out-Query q).parts → length ps ≤ i → DocsSoFar n i b → base_docs n b ≡ hits kd (parts_of kd q)
-  docs_end q n i b are l so_far = so_far ∙ ap (λ xs. hits kd (map (rows_of_part kd) xs)) (take_all i ps l ∙ are) ∙ ap (hits kd) (sym (parts_read kd q))
+  pub docs_end : (q : Query) (ds : List ℕ) (i : ℕ) (b : Base) → ps ≡ (out-Query q).parts → length ps ≤ i → DocsSoFar ds i b
+      → base_docs ds b ≡ hits kd (parts_of kd q)
+  docs_end q ds i b are l so_far = so_far ∙ ap (λ xs. hits kd (map (rows_of_part kd) xs)) (take_all i ps l ∙ are) ∙ ap (hits kd) (sym (parts_read kd q))

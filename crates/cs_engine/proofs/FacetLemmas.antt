@@ -22,7 +22,7 @@ use Rattle.cs_meet.specs.Filters.{is_of_doc, keep_docs}
 use Rattle.cs_tables.specs.WordCounts.{AreCountable, HasCounted, WordCountsView, chosen, is_chosen}
 use Rattle.cs_engine.specs.Counting.{AreListed, in_listed}
 use Rattle.cs_engine.specs.IndexReading.{AreWithin, IsWithin}
-use Rattle.cs_engine.specs.Stocked.{base_docs, is_between}
+use Rattle.cs_engine.specs.Stocked.{base_docs, is_between, present_docs}
 use Rattle.cs_engine.proofs.CountingLemmas.{kept_listed}
 use Rattle.cs_engine.proofs.RowsInRange.{kept_within}
 
@@ -39,11 +39,12 @@ module _ (lo hi : ℕ) (listed : List Bool) (posts all : List Post) (are : posts
       (all_then (λ p. is_between lo hi p ≡ true) (λ p. is_chosen lo hi listed p ≡ in_listed listed p) (λ p h. ap (λ b. b && in_listed listed p) h) posts
       (recursion_from_All (λ p. is_between lo hi p ≡ true) posts between))
 
-  pub chosen_kept : (i : IndexView) (base : Base) (docs : List ℕ) (rows : List Post) → AreListed i.docs base listed → AreWithin i posts
-      → docs ≡ base_docs i.docs base → rows ≡ keep_docs posts docs → chosen lo hi listed rows ≡ filter (in_listed listed) posts
-  chosen_kept i base docs rows has w docs_are rows_are =
+  pub chosen_kept : (i : IndexView) (present : List Bool) → length present ≡ i.docs → (base : Base) (docs : List ℕ) (rows : List Post)
+      → AreListed present base listed → AreWithin i posts → docs ≡ base_docs (present_docs present) base → rows ≡ keep_docs posts docs
+      → chosen lo hi listed rows ≡ filter (in_listed listed) posts
+  chosen_kept i present long base docs rows has w docs_are rows_are =
       let asked = filter (in_listed listed) posts in
-      ap (chosen lo hi listed) (rows_are ∙ ap (keep_docs posts) docs_are ∙ sym (kept_listed i base listed posts has w))
+      ap (chosen lo hi listed) (rows_are ∙ ap (keep_docs posts) docs_are ∙ sym (kept_listed i present long base listed posts has w))
       ∙ all_pass (is_chosen lo hi listed) asked
       (λ k d l. ap₂ (λ x y. x && y) (All-filter (in_listed listed) (λ p. is_between lo hi p ≡ true) posts between k d l)
       (filter_passes (in_listed listed) posts k d l))

@@ -28,7 +28,7 @@ module _ (b : List ℕ) (v : SourceView) (stands : StandsFor b v.index) (is : Is
 
   -- what is shown of them is the facet's table
   pub facet_counted : (base : Base) (cut : ℕ) (name copied prefix : List ℕ) (lo hi : ℕ) (listed : List Bool) (ws : List (List ℕ)) (first : List Numbered)
-      (shown : List Shown) → copied ≡ name → prefix ≡ named name [] → IsRange v.words prefix lo hi → AreListed v.docs base listed
+      (shown : List Shown) → copied ≡ name → prefix ≡ named name [] → IsRange v.words prefix lo hi → AreListed v.present base listed
       → ws ≡ v.words → first ≡ take cut (post_table (facet_posts lo hi listed)) → shown ≡ map (shown_at ws) first
       → ◌≡◌ {A = FacetShown} (record { name = copied; table = shown }) (facet_at (v.stock b) base cut name)
   facet_counted base cut name copied prefix lo hi listed ws first shown same prefix_is range has words first_is shown_is =
@@ -36,7 +36,7 @@ module _ (b : List ℕ) (v : SourceView) (stands : StandsFor b v.index) (is : Is
       let within = kept_within (seen v) (is_between lo hi) (v.stock b).posts (source_within b v stands is) in
       let own = subst (λ p. IsRange v.words p lo hi) prefix_is range in
       let rows = found_between b v stands is (begins (named name [])) lo hi own.holds asked refl in
-      let kept = kept_listed (seen v) base listed asked has within in
+      let kept = kept_listed (seen v) v.present is.long base listed asked has within in
       let table_is = words_as_shown b v stands is (facet_posts lo hi listed)
       (kept_within (seen v) (in_listed listed) asked within) ws words cut first first_is shown shown_is in
-      facet_told b v stands is base cut name copied asked (facet_posts lo hi listed) v.docs shown same rows refl kept table_is
+      facet_told b v stands is base cut name copied asked (facet_posts lo hi listed) shown same rows kept table_is

@@ -1,43 +1,28 @@
 -- Documents in turn, and the scores that a base gives them.
 --
---   every_more, docs_rise, every_rises      documents in turn
---   all_kept         all rows are in one of all documents
+--   docs_rise        documents in turn
+--   stays            posts that pass a test all stay
 --   scored_rise      documents with scores
 --   found_small, greatest_small       scores stay small
 --   is_excluded      the rows of an excluded part are excluded
-use Rattle.std.proofs.Common.{◌≡◌, ℕ, ◌+◌, ◌<◌, ◌≤◌, ◌==◌, Bool, true, false, List, [], ◌∷◌, ◌++◌, map, cond, refl, sym, ◌∙◌, ap, arith}
+use Rattle.std.proofs.Common.{◌≡◌, ℕ, ◌≤◌, ◌==◌, Bool, true, false, List, [], ◌∷◌, map, cond, refl, ◌∙◌, ap, arith}
 use Rattle.std.specs.Prelude.{Some, filter, find}
 use Rattle.std.specs.Option.{option_map, unwrap_or}
-use Rattle.std.specs.List.{All, AllByRecursion, list_any, range_with_len}
+use Rattle.std.specs.List.{AllByRecursion}
 use Rattle.std.specs.List.Sorted.{IsStrictlySortedBy}
 use Rattle.std.specs.Ordering.{nat_cmp}
 use Rattle.std.specs.declared.cmp.Ordering.TheVariants.{Less}
-use Rattle.std.proofs.lemmas.List.Elements.{recursion_from_All}
-use Rattle.std.proofs.lemmas.List.FromFn.{map-range_with_len_more}
-use Rattle.cs_base.specs.declared.content.doc.Base.TheVariants as base
 use Rattle.cs_base.specs.declared.content.doc.Post.{Post}
 use Rattle.cs_base.specs.declared.content.doc.Scored.{Scored}
 use Rattle.cs_base.specs.declared.content.query.Part.{Part, out-Part}
 use Rattle.cs_base.specs.declared.content.scores.TheConstants.{MAX_ROW_SCORE}
-use Rattle.cs_meet.specs.Filters.{keep_docs}
 use Rattle.cs_base.specs.content.Orders.{by_doc, AreDocs, AreByDoc}
-use Rattle.cs_meet.specs.Filters as meet
 use Rattle.cs_model.specs.Answers.{PartRows, rows_of_part}
 use Rattle.cs_rank.specs.DocScores.{greatest}
-use Rattle.cs_engine.specs.Stocked.{Stock, corpus_in, every, base_docs}
-use Rattle.cs_base.proofs.MembersLemmas.{all_then}
-use Rattle.cs_engine.proofs.ListedLemmas.{range_rises, in_range}
+use Rattle.cs_engine.specs.Stocked.{Stock, corpus_in}
 use Rattle.cs_engine.proofs.FoldsLemmas.{part_rows-is}
-use Rattle.cs_engine.proofs.HitsLemmas.{own_docs}
-
-abbrev with_no_score : ℕ → Scored
-with_no_score d = record { doc = d; score = 0 }
-
-pub every_more : (n : ℕ) → every (n + 1) ≡ every n ++ with_no_score n ∷ []
-every_more n = map-range_with_len_more with_no_score 0 n n (omega arith)
 
 -- ---- documents in order
-
 later_docs : (h : Scored) (hs : List Scored) → AllByRecursion (λ x. by_doc h x ≡ Less) hs → AllByRecursion (λ d. nat_cmp h.doc d ≡ Less) (map (λ h. h.doc) hs)
 later_docs h [] up = tt
 later_docs h (x ∷ hs) up = (up.0, later_docs h hs up.1)
@@ -57,19 +42,9 @@ unfolding IsStrictlySortedBy
 scored_rise f h [] up = tt
 scored_rise f h (d ∷ ds) up = (later_scored f h d ds up.0, scored_rise f h ds up.1)
 
-pub every_rises : (n : ℕ) → AreByDoc (every n)
-every_rises n = scored_rise with_no_score (λ d. refl) (range_with_len 0 n) (range_rises 0 n)
-
 pub stays : (p : Post → Bool) (rows : List Post) → AllByRecursion (λ r. p r ≡ true) rows → filter p rows ≡ rows
 stays p [] h = refl
 stays p (r ∷ rows) h = ap (λ b. cond b (r ∷ filter p rows) (filter p rows)) h.0 ∙ ap (λ l. r ∷ l) (stays p rows h.1)
-
-pub all_kept : (n : ℕ) (rows : List Post) → All (λ p. p.doc < n) rows → rows ≡ keep_docs rows (base_docs n base.All)
-all_kept n rows known =
-    sym (ap (keep_docs rows) (own_docs with_no_score (λ d. refl) (range_with_len 0 n))
-    ∙ stays (λ r. list_any (meet.is_of_doc r) (range_with_len 0 n)) rows
-    (all_then (λ p. p.doc < n) (λ r. list_any (meet.is_of_doc r) (range_with_len 0 n) ≡ true) (λ r l. in_range 0 n r.doc (omega arith) (omega (arith, l))) rows
-    (recursion_from_All (λ p. p.doc < n) rows known)))
 
 -- ---- scores stay small
 

@@ -5,11 +5,10 @@
 --   hits_positive, hits_excluded      the hits that one more part leaves
 --   kept_docs         the documents of the rows in the hits so far
 --   listed_docs       a base that lists the hits so far has their documents
-use Rattle.std.proofs.Common.{◌≡◌, ℕ, ◌==◌, ◌&&◌, ◌||◌, max, Bool, true, false, not, List, [], ◌∷◌, ◌++◌, length, map, get_or, refl, sym, ◌∙◌, ap, subst}
+use Rattle.std.proofs.Common.{◌≡◌, ℕ, ◌==◌, ◌&&◌, ◌||◌, max, Bool, true, false, not, List, [], ◌∷◌, ◌++◌, map, get_or, refl, sym, ◌∙◌, ap}
 use Rattle.std.proofs.Common.{if◌then◌else◌}
 use Rattle.std.specs.Prelude.{filter}
 use Rattle.std.specs.List.{All, AllByRecursion, list_any, list_all}
-use Rattle.std.specs.List.Sorted.{IsStrictlySortedBy}
 use Rattle.std.specs.Ordering.{nat_cmp, eq_by_cmp}
 use Rattle.std.specs.Cmp.{nat_cmp_total}
 use Rattle.std.specs.FinMap.{nat_cmp-IsAntisymmetric, keys}
@@ -22,7 +21,7 @@ use Rattle.cs_base.specs.content.Orders.{AreDocs, docs_of}
 use Rattle.cs_base.specs.declared.content.doc.Base.{Base}
 use Rattle.cs_base.specs.declared.content.doc.Post.{Post}
 use Rattle.cs_base.specs.declared.content.doc.Scored.{Scored}
-use Rattle.cs_base.proofs.MembersLemmas.{all_then, members_are}
+use Rattle.cs_base.proofs.MembersLemmas.{all_then, keys-rise, members_are}
 use Rattle.cs_base.proofs.ListsLemmas.{all_of, filter_twice, and_true, same_number, itself, number_tie, any_tie, filter_through, filter_alike, any_through}
 use Rattle.cs_meet.specs.Filters.{keep_docs}
 use Rattle.cs_meet.specs.Filters as meet
@@ -31,8 +30,7 @@ use Rattle.cs_model.specs.Corpus.{Corpus}
 use Rattle.cs_rank.specs.DocScores.{greatest}
 use Rattle.cs_model_index.specs.Numbered.{row_of, rows_at}
 use Rattle.cs_model_kept.specs.Entries.{scored_hits}
-use Rattle.cs_engine.specs.Stocked.{Stock, corpus_in, base_hits, base_docs}
-use Rattle.cs_engine.proofs.ListedLemmas.{keys_numbered, range_rises}
+use Rattle.cs_engine.specs.Stocked.{Stock, corpus_in, base_hits, base_docs, stock_docs}
 
 -- ---- one more part
 
@@ -93,8 +91,7 @@ module _ (ws : List (List ℕ)) (posts : List Post) where
 pub ds_rise : (s : Stock) (done : List PartRows) → AreDocs (hits (corpus_in s) done)
 ds_rise s done =
     let ks = keys (corpus_in s).titles in
-    IsStrictlySortedBy-filter nat_cmp (λ d. list_all (agrees d) done) ks
-    (subst (IsStrictlySortedBy nat_cmp) (sym (keys_numbered s.titles)) (range_rises 0 (length s.titles)))
+    IsStrictlySortedBy-filter nat_cmp (λ d. list_all (agrees d) done) ks (keys-rise nat_cmp s.titles)
 
 module _ (s : Stock) (done : List PartRows) (p : PartRows) (posts : List Post) (is : rows_at s.words posts ≡ p.rows) where
   abbrev k : Corpus
@@ -129,6 +126,6 @@ module _ (s : Stock) (done : List PartRows) (p : PartRows) (posts : List Post) (
       ∙ filter_through (row_of s.words) (λ r. is_listed now r.doc) posts
       ∙ ap (filter (λ r. is_listed now r.doc)) (is ∙ sym (last_more done p ∙ ap (λ b. if b then [] else p.rows) e))
 
-  module _ (b : Base) (lists : base_hits (length s.titles) b ≡ scored_hits k done) where
-    pub listed_docs : base_docs (length s.titles) b ≡ ds
+  module _ (b : Base) (lists : base_hits (stock_docs s) b ≡ scored_hits k done) where
+    pub listed_docs : base_docs (stock_docs s) b ≡ ds
     listed_docs = ap (map (λ h. h.doc)) lists ∙ own_docs (scored done) (λ d. refl) ds

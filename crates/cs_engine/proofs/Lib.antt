@@ -22,6 +22,7 @@ pub mod LooseLemmas
 pub mod PackingLemmas
 pub mod PlainParts
 pub mod PlansLemmas
+pub mod PresentLemmas
 pub mod RowsInRange
 pub mod RangeLemmas
 pub mod ReplyLemmas

@@ -4,9 +4,8 @@
 --   large_entry, is_large        where it is larger than may be kept
 --   found_counts   what is counted of rows by blocks gives the table of the query
 --   table_counted, table_there     that table
-use Rattle.std.proofs.Common.{◌≡◌, ℕ, ◌+◌, ◌-◌, ◌<◌, ◌≤◌, Bool, true, false, List, length, take, refl, sym, ap, subst, ◌∙◌, arith, if◌then◌else◌}
+use Rattle.std.proofs.Common.{◌≡◌, ℕ, ◌+◌, ◌-◌, ◌<◌, ◌≤◌, Bool, true, List, length, take, refl, sym, ap, subst, ◌∙◌, arith, if◌then◌else◌}
 use Rattle.std.specs.Prelude.{All, filter, nat_lt}
-use Rattle.std.specs.List.{list_any}
 use Rattle.std.proofs.lemmas.Bool.Decides.{nat_tests}
 use Rattle.std.proofs.lemmas.List.Elements.{All-weaker}
 use Rattle.cs_base.specs.declared.content.doc.Base.{Base}
@@ -21,18 +20,18 @@ use Rattle.cs_tables.specs.TableListings.{post_table}
 use Rattle.cs_tables.specs.declared.tables.Completion.{Completion}
 use Rattle.cs_tables.specs.declared.tables.Table.{Table}
 use Rattle.cs_tables.specs.WordCounts.{AreCountable, HasCounted, WordCountsView}
-use Rattle.cs_meet.specs.Filters.{is_of_doc}
 use Rattle.cs_engine.specs.Blockwise.{HasFound}
 use Rattle.cs_engine.specs.Counting.{AreListed, in_listed}
 use Rattle.cs_engine.specs.Keeping.{FitsQuery, IsEntryOver, entry_with}
 use Rattle.cs_engine.specs.Loose.{AreCountsFor, AreLastWords, IsEntryByWords, IsTableFor}
 use Rattle.cs_engine.specs.IndexReading.{AreWithin}
 use Rattle.cs_engine.specs.Sources.{IsSource, SourceView, seen}
-use Rattle.cs_engine.specs.Steps.{EntryFits, last_is_positive, posts_after}
-use Rattle.cs_engine.specs.Stocked.{corpus_in, base_docs, is_between}
+use Rattle.cs_engine.specs.Steps.{EntryFits, last_is_positive}
+use Rattle.cs_engine.specs.Stocked.{corpus_in, is_between, base_posts}
 use Rattle.cs_engine.proofs.OverSources.{source_within}
 use Rattle.cs_engine.proofs.KeepingLemmas.{fresh_is}
 use Rattle.cs_engine.proofs.PackingLemmas.{AreAlike}
+use Rattle.cs_engine.proofs.PartSteps.{in_base_within}
 use Rattle.cs_engine.proofs.PlainParts.{listed_entry, listed_fits}
 use Rattle.cs_engine.proofs.PlansLemmas.{found_by_entry}
 use Rattle.cs_engine.proofs.RowsInRange.{kept_within}
@@ -41,12 +40,12 @@ large_true : (m n : ℕ) → m < n → nat_lt m n ≡ true
 large_true m n lt = grind (arith, nat_tests)
 
 module _ (v : SourceView) (q : Query) (hits : Base) (lo hi : ℕ) (asks : AreLastWords (seen v) q hits lo hi) (listed : List Bool)
-    (has : AreListed v.docs hits listed) where
-  pub entry_fits : (rows : List Post) → AreWithin (seen v) rows → All (λ p. in_listed listed p ≡ true) rows → FitsQuery (seen v) q (entry_with hits rows)
-  entry_fits rows w passed =
+    (has : AreListed v.present hits listed) where
+  pub entry_fits : (long : length v.present ≡ v.docs) (rows : List Post) → AreWithin (seen v) rows → All (λ p. in_listed listed p ≡ true) rows → FitsQuery (seen v) q (entry_with hits rows)
+  entry_fits long rows w passed =
       let n = length (out-Query q).parts in
       let many : n - 1 + 1 ≡ n = (let some = asks.some in omega (arith, some)) in
-      let fits = listed_fits (seen v) hits listed has rows w passed (n - 1) asks.base in
+      let fits = listed_fits (seen v) v.present long hits listed has rows w passed (n - 1) asks.base in
       subst (λ m. EntryFits (seen v) (last_is_positive q) m (entry_with hits rows)) many
       (subst (λ p. EntryFits (seen v) p (n - 1 + 1) (entry_with hits rows)) (sym asks.positive) fits)
 
@@ -72,14 +71,13 @@ module _ (v : SourceView) (q : Query) (hits : Base) (lo hi : ℕ) (asks : AreLas
 pub found_counts : (v : SourceView) (q : Query) (hits : Base) (lo hi : ℕ) → AreLastWords (seen v) q hits lo hi → (b : List ℕ) → StandsFor b v.index
     → IsSource v
     → IsEntryByWords b v q hits lo hi → (found : Base) (t : WordCountsView)
-    → HasFound hits (posts_after v.docs hits false (filter (is_between lo hi) (v.stock b).posts)).rows found t → AreCountsFor v b q found t
+    → HasFound hits (base_posts hits (filter (is_between lo hi) (v.stock b).posts)) found t → AreCountsFor v b q found t
 found_counts v q hits lo hi asks b stands is by found t f =
     let posts = filter (is_between lo hi) (v.stock b).posts in
     record {
-      posts = (posts_after v.docs hits false posts).rows;
-      found = found_by_entry v q (posts_after v.docs hits false posts) true (sym asks.positive) found f.hits_are b stands is by;
-      within = kept_within (seen v) (λ r. list_any (is_of_doc r) (base_docs v.docs hits)) posts
-          (kept_within (seen v) (is_between lo hi) (v.stock b).posts (source_within b v stands is));
+      posts = base_posts hits posts;
+      found = found_by_entry v q (entry_with hits (base_posts hits posts)) true (sym asks.positive) found f.hits_are b stands is by;
+      within = in_base_within (seen v) hits posts (kept_within (seen v) (is_between lo hi) (v.stock b).posts (source_within b v stands is));
       table = f.table;
     }
 

@@ -4,15 +4,15 @@
 --   opened_source    an index is a source
 --   opened_title     a title
 --   answers_opened   what is right of the stock is right of the file
-use Rattle.std.proofs.Common.{◌≡◌, ℕ, ◌<◌, Bool, ◌&&◌, true, false, List, [], length, get_or, replicate, sym, ap, subst, ◌∙◌}
+use Rattle.std.proofs.Common.{◌≡◌, ℕ, ◌<◌, Bool, ◌&&◌, true, List, [], length, get_or, sym, ap, subst, ◌∙◌}
 use Rattle.std.proofs.Common.{append-nil}
 use Rattle.std.specs.Prelude.{All, Result, filter}
-use Rattle.std.specs.List.{list_any}
+use Rattle.std.specs.List.{list_any, range_with_len}
 use Rattle.std.specs.Str.{IsUtf8, is_utf8}
 use Rattle.std.proofs.lemmas.Bool.{and_parts}
 use Rattle.std.proofs.lemmas.Str.{IsUtf8-from_is_utf8}
-use Rattle.std.proofs.lemmas.List.{get_or-replicate, length-replicate}
-use Rattle.std.proofs.lemmas.List.Elements.{All-nil, All-weaker}
+use Rattle.std.proofs.lemmas.List.{length-replicate}
+use Rattle.std.proofs.lemmas.List.Elements.{All-nil}
 use Rattle.std.proofs.lemmas.List.Kept.{IsStrictlySortedBy-filter}
 use Rattle.cs_base.specs.content.Orders.{by_place}
 use Rattle.cs_base.specs.declared.content.doc.Post.{Post}
@@ -27,15 +27,17 @@ use Rattle.cs_file.specs.declared.fault.FetchFault.{FetchFault}
 use Rattle.cs_model.specs.Replies.{Reply}
 use Rattle.cs_model.specs.Requests.{Request}
 use Rattle.cs_engine.specs.Counting.{counted_rows}
-use Rattle.cs_engine.specs.IndexReading.{IsWithin, by_post, stock_of}
+use Rattle.cs_engine.specs.IndexReading.{by_post, stock_of}
 use Rattle.cs_engine.specs.Keeping.{AnswersRight, AreGood, AreGoodFor, EngineView}
 use Rattle.cs_engine.specs.declared.note.Note.{Note}
-use Rattle.cs_engine.specs.Sources.{IsIn, IsSource, IsTold, is_there, source_of}
+use Rattle.cs_engine.specs.Sources.{IsIn, IsSource, IsTold, source_of}
 use Rattle.cs_engine.specs.Stocked.{corpus_in, title_at}
 use Rattle.cs_engine.proofs.AlikeLemmas.{any_filter}
 use Rattle.cs_engine.proofs.AskedWords.{prefix_met, word_met}
-use Rattle.cs_engine.proofs.CountingLemmas.{countable, stock_within, whole_apart}
+use Rattle.cs_engine.proofs.CountingLemmas.{countable, whole_apart}
 use Rattle.cs_engine.proofs.DistinctLemmas.{long_alike}
+use Rattle.cs_engine.proofs.ListedLemmas.{keys_numbered}
+use Rattle.cs_engine.proofs.PresentLemmas.{present_all}
 use Rattle.cs_engine.proofs.ReplyLemmas.{titled}
 use Rattle.cs_engine.proofs.StockLemmas.{by_post_exact, by_post_total, docs_are, stock_corpus, stocked, words_are}
 
@@ -60,10 +62,8 @@ module _ (i : IndexView) (is : IsIndex i) where
     pub opened_told : IsTold (source_of i) b
     opened_told = record {
       stocked = stocked b i stands is;
-      docs = docs_are b i stands is;
+      docs = present_all i.docs ∙ ap (range_with_len 0) (docs_are b i stands is) ∙ sym (keys_numbered (image_of b).titles);
       words = words_are b i stands is;
-      there = All-weaker (IsWithin i.docs (length i.words)) (λ p. is_there (replicate i.docs true) p ≡ true)
-          (λ p h. get_or-replicate i.docs p.doc true false h.doc) (stock_of b).posts (stock_within b i stands is).within;
       count = stood_count b i stands;
       alike = λ t. ap (list_any t) (append-nil flat) ∙ flat_alike t;
       long = λ t. ap (λ ps. length (filter t ps)) (append-nil flat) ∙ flat_long t;
@@ -89,7 +89,7 @@ module _ (i : IndexView) (is : IsIndex i) where
 
 -- the title that is read of the bytes is that of the stock
 pub opened_title : (i : IndexView) → IsIndex i → (b : List ℕ) → StandsFor b i → (d : ℕ) → d < i.docs → title_in b d ≡ title_at (stock_of b).titles d
-opened_title i is b stands d l = sym (titled (stock_of b).titles d [] (subst (λ n. d < n) (docs_are b i stands is) l))
+opened_title i is b stands d l = sym (titled (image_of b).titles d [] (subst (λ n. d < n) (docs_are b i stands is) l))
 
 -- what is right of the stock is right of the file
 pub answers_opened : (b : List ℕ) (i : IndexView) → StandsFor b i → IsIndex i → {r : Request} {old new : EngineView} {a : Result (Reply × Note) FetchFault}

@@ -7,7 +7,7 @@
 --   run_countable    and so are those of a run of blocks
 --   blocks_counted   one block more is counted
 --   chosen_table     their table
---   all_within       of all documents each row is in one
+--   listed_asked     the rows of some words in listed documents
 --   all_there        each row's document is there
 use Rattle.std.proofs.Common.{◌≡◌, ℕ, ◌+◌, ◌-◌, ◌<◌, ◌≤◌, ◌&&◌, Bool, true, false, List, [], ◌∷◌, ◌++◌, length, get_or, take, drop, refl, sym, ap, ap₂, subst}
 use Rattle.std.proofs.Common.{◌∙◌, arith}
@@ -18,20 +18,22 @@ use Rattle.std.specs.Cmp.{Equal-is, tied_itself}
 use Rattle.std.proofs.lemmas.List.Elements.{All-filter, All-weaker, filter-append, recursion_from_All}
 use Rattle.std.proofs.lemmas.List.Folds.{list_any_at}
 use Rattle.std.proofs.lemmas.Map.Views.{Contains-from_any}
-use Rattle.cs_base.specs.declared.content.doc.Base.TheVariants as base
+use Rattle.cs_base.specs.declared.content.doc.Base.{Base}
 use Rattle.cs_base.specs.declared.content.doc.Post.{Post}
 use Rattle.cs_base.proofs.ListsLemmas.{all_stay, filter_alike, filter_twice}
+use Rattle.cs_base.proofs.MembersLemmas.{all_then}
 use Rattle.cs_file.specs.Indexes.{AreMet, StandsFor}
+use Rattle.cs_model.specs.Answers.{is_listed}
 use Rattle.cs_tables.specs.TableListings.{post_table}
 use Rattle.cs_tables.specs.WordCounts.{AreCountable, HasCounted, WordCountsView, chosen, is_chosen}
 use Rattle.cs_tables.proofs.WordCountsLemmas.{front_countable}
 use Rattle.cs_engine.specs.Counting.{AreListed, counted_rows, in_listed}
 use Rattle.cs_engine.specs.IndexReading.{AreWithin, IsWithin, by_post}
 use Rattle.cs_engine.specs.Sources.{IsSource, SourceView, is_there, all_rows, seen}
-use Rattle.cs_engine.specs.Stocked.{IsKnown, is_between}
+use Rattle.cs_engine.specs.Stocked.{IsKnown, is_between, base_posts, present_docs}
 use Rattle.cs_engine.proofs.AlikeLemmas.{any_filter, table_alike}
 use Rattle.cs_engine.proofs.CountingLemmas.{flat_more, kept_listed}
-use Rattle.cs_engine.proofs.FoundLemmas.{all_kept}
+use Rattle.cs_engine.proofs.PresentLemmas.{is_present, is_titled, posts_are_in, present_below}
 use Rattle.cs_engine.proofs.RowsInRange.{kept_within}
 use Rattle.cs_engine.proofs.StockLemmas.{by_post_exact, by_post_total}
 
@@ -52,19 +54,23 @@ module _ (b : List ℕ) (v : SourceView) (stands : StandsFor b v.index) (is : Is
   abbrev flat : List Post
   flat = flat_map (λ block. block) (v.blocks b)
 
+  -- the document of a known row is there
+  known_there : (p : Post) → IsKnown (v.stock b) p → is_there v.present p ≡ true
+  known_there p h = sym (is_present v.present p.doc) ∙ ap (λ ds. is_listed ds p.doc) (is.told b stands).docs ∙ is_titled (v.stock b).titles p.doc ∙ h.doc
+
   pub source_within : AreWithin (seen v) (v.stock b).posts
   source_within =
       let told = is.told b stands in
       let st = told.stocked in
-      let docs = told.docs in
+      let long = is.long in
       let words = ap length told.words in
       record {
         sorted = st.sorted;
         within = All-weaker (IsKnown (v.stock b)) (IsWithin v.docs (length v.words))
             (λ x h.
-            let doc = h.doc in
+            let doc = present_below v.present x.doc (known_there x h) in
             let word = h.word in
-            record { doc = omega (arith, doc, docs); word = omega (arith, word, words); score_from = h.score_from; score_to = h.score_to })
+            record { doc = omega (arith, doc, long); word = omega (arith, word, words); score_from = h.score_from; score_to = h.score_to })
             (v.stock b).posts st.known;
       }
 
@@ -126,20 +132,25 @@ module _ (b : List ℕ) (v : SourceView) (stands : StandsFor b v.index) (is : Is
       let own : Steps lo hi = subst (Steps lo) high (subst (λ l. Steps l old.high) low (λ few. step before few h)) in
       subst (λ rows. HasCounted rows new) (sym more) (own (subst AreCountable more all))
 
-  -- ---- all documents
-  pub all_within : (lo hi : ℕ) (all : List Bool) → AreListed v.docs base.All all
-      → filter (in_listed all) (filter (is_between lo hi) (v.stock b).posts) ≡ filter (is_between lo hi) (v.stock b).posts
-  all_within lo hi all has =
+  -- ---- listed documents
+  -- the rows of some words in the documents that a base lists
+  pub listed_asked : (lo hi : ℕ) (hits : Base) (listed : List Bool) → AreListed v.present hits listed
+      → filter (in_listed listed) (filter (is_between lo hi) (v.stock b).posts) ≡ base_posts hits (filter (is_between lo hi) (v.stock b).posts)
+  listed_asked lo hi hits listed has =
       let asked = filter (is_between lo hi) posts in
+      let told = is.told b stands in
+      let known : All (IsKnown (v.stock b)) asked = All-filter (is_between lo hi) (IsKnown (v.stock b)) posts told.stocked.known in
       let w = kept_within (seen v) (is_between lo hi) posts source_within in
-      kept_listed (seen v) base.All all asked has w ∙ sym (all_kept v.docs asked
-      (All-weaker (IsWithin v.docs (length v.words)) (λ p. p.doc < v.docs) (λ p h. h.doc) asked w.within))
+      kept_listed (seen v) v.present is.long hits listed asked has w
+      ∙ sym (posts_are_in (present_docs v.present) hits asked
+      (all_then (IsKnown (v.stock b)) (λ p. is_listed (present_docs v.present) p.doc ≡ true) (λ p h. is_present v.present p.doc ∙ known_there p h) asked
+      (recursion_from_All (IsKnown (v.stock b)) asked known)))
 
   pub all_there : (lo hi : ℕ) (listed : List Bool) → listed ≡ v.present
       → filter (in_listed listed) (filter (is_between lo hi) (v.stock b).posts) ≡ filter (is_between lo hi) (v.stock b).posts
   all_there lo hi listed same =
       let asked = filter (is_between lo hi) posts in
       let each : All (λ p. in_listed listed p ≡ true) asked = All-filter (is_between lo hi) (λ p. in_listed listed p ≡ true) posts
-      (All-weaker (λ p. is_there v.present p ≡ true) (λ p. in_listed listed p ≡ true) (λ p h. ap (λ l. get_or l p.doc false) same ∙ h) posts
-      (is.told b stands).there) in
+      (All-weaker (IsKnown (v.stock b)) (λ p. in_listed listed p ≡ true) (λ p h. ap (λ l. get_or l p.doc false) same ∙ known_there p h) posts
+      (is.told b stands).stocked.known) in
       filter_alike (in_listed listed) (λ p. true) asked (recursion_from_All (λ p. in_listed listed p ≡ true) asked each) ∙ all_stay asked

@@ -4,15 +4,16 @@
 --   hits_in                the hits of an entry in range
 --   hits_told              the hits of posts are those of the rows that they stand for
 --   listed_told            the hits of a base, as a list
+--   kept_posts             posts of a stock in a base are those of its documents
+--   in_base_within         and they are in range
 --   step_told              the entry behind a part is that of its rows
 --   step_within            and it is in range
 --   AreHitsBehind s hits p next     the hits of the entry behind a part
---   known_docs                 the documents of posts
 --   docs_more, unscored_docs, base_sorted     the documents of a base, without scores
 use Rattle.std.proofs.Common.{◌≡◌, ℕ, ◌+◌, ◌-◌, ◌*◌, ◌<◌, ◌≤◌, ◌^◌, ◌==◌, Bool, true, false, true≢false, not, List, [], ◌∷◌, ◌++◌, length, map, get_or}
 use Rattle.std.proofs.Common.{refl, sym, ap, subst, ◌∙◌, arith, if◌then◌else◌}
 use Rattle.std.specs.Prelude.{All, filter}
-use Rattle.std.specs.List.{list_any, range_with_len}
+use Rattle.std.specs.List.{list_any}
 use Rattle.std.specs.Ordering.{nat_cmp}
 use Rattle.std.specs.Cmp.{nat_cmp_total}
 use Rattle.std.specs.FinMap.{nat_cmp-IsAntisymmetric}
@@ -25,7 +26,7 @@ use Rattle.cs_base.specs.declared.content.doc.Base.TheVariants as base
 use Rattle.cs_base.specs.declared.content.doc.Post.{Post}
 use Rattle.cs_base.specs.declared.content.doc.Row.{Row}
 use Rattle.cs_base.specs.declared.content.doc.Scored.{Scored}
-use Rattle.cs_base.proofs.MembersLemmas.{listing-rises}
+use Rattle.cs_base.proofs.MembersLemmas.{all_then, listing-rises}
 use Rattle.cs_base.proofs.ListsLemmas.{all_of, map_alike, filter_through, filter_alike, any_through}
 use Rattle.cs_base.specs.content.Bases.{base_score}
 use Rattle.cs_base.specs.declared.content.scores.TheConstants.{MAX_ROW_SCORE}
@@ -33,19 +34,20 @@ use Rattle.cs_docs.proofs.TextLemmas.{All-members}
 use Rattle.cs_file.specs.Indexes.{IndexView}
 use Rattle.cs_meet.specs.Filters.{keep_docs, drop_docs, is_of}
 use Rattle.cs_meet.specs.Filters as meet
-use Rattle.cs_model.specs.Answers.{PartRows, hits, in_doc, greatest_score}
+use Rattle.cs_model.specs.Answers.{PartRows, hits, in_doc, is_listed, greatest_score}
 use Rattle.cs_model.specs.Answers as answers
 use Rattle.cs_model_kept.specs.Entries.{Entry, EntryOf, entry_at, hits_of, is_begun, is_hit, over, without}
 use Rattle.cs_model_kept.specs.Entries as kept
 use Rattle.cs_rank.specs.DocScores.{IsBase, best_row, greatest, of_doc, doc_scores, with_base}
-use Rattle.cs_engine.specs.IndexReading.{AreWithin, IsWithin}
+use Rattle.cs_engine.specs.IndexReading.{AreWithin, HasRows, IsWithin}
 use Rattle.cs_engine.specs.Steps.{docs_after, posts_hits, posts_after, with_no_score, IsHitOf, IsBaseOf, EntryFits, IsStep, is_in_base}
 use Rattle.cs_model_index.specs.Numbered.{row_of, rows_at}
-use Rattle.cs_engine.specs.Stocked.{Stock, corpus_in, every, base_hits, base_docs}
-use Rattle.cs_engine.proofs.FoundLemmas.{docs_rise, every_rises, scored_rise, found_small, greatest_small}
+use Rattle.cs_engine.specs.Stocked.{IsKnown, IsStocked, Stock, corpus_in, stock_docs, every, base_hits, base_docs, base_posts}
+use Rattle.cs_engine.proofs.FoundLemmas.{docs_rise, scored_rise, found_small, greatest_small}
 use Rattle.cs_engine.proofs.HitsLemmas.{ds_rise, greatest_of, hits_excluded, hits_positive, kept_docs, own_docs}
-use Rattle.cs_engine.proofs.ListedLemmas.{keys_numbered, range_below}
+use Rattle.cs_engine.proofs.PresentLemmas.{every_ascends, is_titled, posts_are_in}
 use Rattle.cs_engine.proofs.RowsInRange.{kept_within, none_within}
+use Rattle.cs_engine.proofs.UnionLemmas.{picked_known}
 
 -- ---- in range
 pub base_in : (docs bound : ℕ) (b : Base) → bound ≤ 2 ^ 20 → IsBaseOf docs bound b → IsBase b
@@ -56,13 +58,13 @@ pub base_weaker : (docs m n : ℕ) (b : Base) → m ≤ n → IsBaseOf docs m b 
 base_weaker docs m n base.All l h = tt
 base_weaker docs m n (base.Listed hs) l h = (h.0, λ k d e. let at = h.1 k d e in record { doc = at.doc; score = (let s = at.score in omega (arith, s, l)) })
 
-every_in : (docs bound : ℕ) → All (IsHitOf docs bound) (every docs)
-every_in docs bound = All-map (IsHitOf docs bound) (λ (d : ℕ). let h : Scored = record { doc = d; score = 0 } in h) (range_with_len 0 docs)
-    (λ k d l. record { doc = range_below docs k d l; score = omega arith })
+every_in : (docs bound : ℕ) (ds : List ℕ) → All (λ d. d < docs) ds → All (IsHitOf docs bound) (every ds)
+every_in docs bound ds below = All-map (IsHitOf docs bound) with_no_score ds (λ k d l. record { doc = below k d l; score = omega arith })
 
-pub listed_in : (docs bound : ℕ) (b : Base) → IsBaseOf docs bound b → AreByDoc (base_hits docs b) × All (IsHitOf docs bound) (base_hits docs b)
-listed_in docs bound base.All h = (every_rises docs, every_in docs bound)
-listed_in docs bound (base.Listed hs) h = h
+pub listed_in : (docs bound : ℕ) (ds : List ℕ) → AreDocs ds → All (λ d. d < docs) ds → (b : Base) → IsBaseOf docs bound b
+    → AreByDoc (base_hits ds b) × All (IsHitOf docs bound) (base_hits ds b)
+listed_in docs bound ds up below base.All h = (every_ascends ds up, every_in docs bound ds below)
+listed_in docs bound ds up below (base.Listed hs) h = h
 
 pub base_small : (docs bound d : ℕ) (b : Base) → IsBaseOf docs bound b → base_score b d ≤ bound
 base_small docs bound d base.All h = omega arith
@@ -123,29 +125,40 @@ pub hits_told : (ws : List (List ℕ)) (positive : Bool) (e : EntryOf Post) → 
 hits_told ws true e = ap base.Listed (over_told ws e.base e.rows)
 hits_told ws false e = refl
 
-pub listed_told : (s : Stock) (n : ℕ) (b : Base) → n ≡ length s.titles → base_hits n b ≡ kept.listed (corpus_in s) b
-listed_told s n base.All is = ap every is ∙ ap (map (λ (d : ℕ). let h : Scored = record { doc = d; score = 0 } in h)) (sym (keys_numbered s.titles))
-listed_told s n (base.Listed hs) is = refl
+pub listed_told : (s : Stock) (b : Base) → base_hits (stock_docs s) b ≡ kept.listed (corpus_in s) b
+listed_told s base.All = refl
+listed_told s (base.Listed hs) = refl
+
+-- posts of a stock are of its documents
+pub kept_posts : (s : Stock) → IsStocked s → {rows : List Row} {posts : List Post} → HasRows s rows posts → (ds : List ℕ) → ds ≡ stock_docs s → (b : Base)
+    → base_posts b posts ≡ keep_docs posts (base_docs ds b)
+kept_posts s stocked {rows} {posts} has ds same b =
+    posts_are_in ds b posts (all_then (IsKnown s) (λ p. is_listed ds p.doc ≡ true)
+    (λ p h. ap (λ xs. is_listed xs p.doc) same ∙ is_titled s.titles p.doc ∙ h.doc) posts (picked_known s posts stocked has.picked.among))
 
 -- ---- the entry behind a part
-module _ (s : Stock) (n : ℕ) (b : Base) (p : PartRows) (posts : List Post) (same : n ≡ length s.titles) (is : rows_at s.words posts ≡ p.rows) where
+module _ (s : Stock) (stocked : IsStocked s) (ds : List ℕ) (same : ds ≡ stock_docs s) (b : Base) (p : PartRows) (posts : List Post) (has : HasRows s p.rows posts) where
   abbrev outs : List Scored
   outs = kept.listed (corpus_in s) b
 
-  dropped : drop_docs (base_hits n b) posts ≡ without p.rows outs
-  dropped =
-      ap (λ l. drop_docs l posts) (listed_told s n b same)
-      ∙ filter_alike (λ h. not (list_any (is_of h) posts)) (λ h. not (list_any (in_doc h.doc) p.rows)) outs
-      (all_of _ (λ h. ap not (sym (any_through (row_of s.words) (in_doc h.doc) posts) ∙ ap (list_any (in_doc h.doc)) is)) outs)
+  listed_by : base_hits ds b ≡ kept.listed (corpus_in s) b
+  listed_by = ap (λ xs. base_hits xs b) same ∙ listed_told s b
 
-  kept_told : rows_at s.words (keep_docs posts (base_docs n b)) ≡ filter (is_hit outs) p.rows
+  dropped : drop_docs (base_hits ds b) posts ≡ without p.rows outs
+  dropped =
+      ap (λ l. drop_docs l posts) listed_by
+      ∙ filter_alike (λ h. not (list_any (is_of h) posts)) (λ h. not (list_any (in_doc h.doc) p.rows)) outs
+      (all_of _ (λ h. ap not (sym (any_through (row_of s.words) (in_doc h.doc) posts) ∙ ap (list_any (in_doc h.doc)) has.is)) outs)
+
+  kept_told : rows_at s.words (base_posts b posts) ≡ filter (is_hit outs) p.rows
   kept_told =
-      ap (λ l. rows_at s.words (keep_docs posts (map (λ h. h.doc) l))) (listed_told s n b same)
+      ap (rows_at s.words) (kept_posts s stocked has ds same b)
+      ∙ ap (λ l. rows_at s.words (keep_docs posts (map (λ h. h.doc) l))) listed_by
       ∙ ap (rows_at s.words) (filter_alike (λ r. list_any (meet.is_of_doc r) (map (λ h. h.doc) outs)) (λ r. is_hit outs (row_of s.words r)) posts
       (all_of _ (λ r. any_through (λ (h : Scored). h.doc) (meet.is_of_doc r) outs) posts))
-      ∙ filter_through (row_of s.words) (is_hit outs) posts ∙ ap (filter (is_hit outs)) is
+      ∙ filter_through (row_of s.words) (is_hit outs) posts ∙ ap (filter (is_hit outs)) has.is
 
-  pub step_told : (excluded : Bool) → p.excluded ≡ excluded → IsStep s b p (posts_after n b excluded posts)
+  pub step_told : (excluded : Bool) → p.excluded ≡ excluded → IsStep s b p (posts_after ds b excluded posts)
   step_told true e =
       ap (λ (l : List Scored). let x : Entry = record { base = base.Listed l; rows = [] } in x) dropped
       ∙ ap (λ x. if x then record { base = base.Listed (without p.rows outs); rows = [] }
@@ -160,34 +173,36 @@ module _ (s : Stock) (n : ℕ) (b : Base) (p : PartRows) (posts : List Post) (sa
       own base.All = refl
       own (base.Listed l) = refl
 
-in_hits : (docs bound : ℕ) (b : Base) (posts : List Post) → All (λ p. p.doc < docs) posts → All (λ p. is_in_base b p ≡ true) (keep_docs posts (base_docs docs b))
-in_hits docs bound base.All posts h = λ k d l. refl
-in_hits docs bound (base.Listed hs) posts h = λ k d l.
-    sym (any_through (λ (h : Scored). h.doc) (meet.is_of_doc (get_or (keep_docs posts (base_docs docs (base.Listed hs))) k d)) hs)
-    ∙ filter_passes (λ r. list_any (meet.is_of_doc r) (map (λ h. h.doc) hs)) posts k d l
+in_hits : (b : Base) (posts : List Post) → All (λ p. is_in_base b p ≡ true) (base_posts b posts)
+in_hits base.All posts = λ k d l. refl
+in_hits (base.Listed hs) posts = λ k d l.
+    let docs = map (λ (h : Scored). h.doc) hs in
+    sym (any_through (λ (h : Scored). h.doc) (meet.is_of_doc (get_or (keep_docs posts docs) k d)) hs)
+    ∙ filter_passes (λ r. list_any (meet.is_of_doc r) docs) posts k d l
 
-pub step_within : (i : IndexView) (b : Base) (excluded : Bool) (posts : List Post) → AreWithin i posts → (n : ℕ) → IsBaseOf i.docs (MAX_ROW_SCORE * n) b
-    → EntryFits i (not excluded) (n + 1) (posts_after i.docs b excluded posts)
-step_within i b true posts w n fits =
-    let all = listed_in i.docs (MAX_ROW_SCORE * n) b fits in
+pub in_base_within : (i : IndexView) (b : Base) (posts : List Post) → AreWithin i posts → AreWithin i (base_posts b posts)
+in_base_within i base.All posts w = w
+in_base_within i (base.Listed hs) posts w = kept_within i (λ r. list_any (meet.is_of_doc r) (map (λ h. h.doc) hs)) posts w
+
+pub step_within : (i : IndexView) (ds : List ℕ) → AreDocs ds → All (λ d. d < i.docs) ds → (b : Base) (excluded : Bool) (posts : List Post) → AreWithin i posts
+    → (n : ℕ) → IsBaseOf i.docs (MAX_ROW_SCORE * n) b → EntryFits i (not excluded) (n + 1) (posts_after ds b excluded posts)
+step_within i ds up known b true posts w n fits =
+    let all = listed_in i.docs (MAX_ROW_SCORE * n) ds up known b fits in
     let keeps : Scored → Bool = λ h. not (list_any (is_of h) posts) in
     record {
       parts = λ e. omega arith;
       rows = none_within i;
-      base = base_weaker i.docs (MAX_ROW_SCORE * n) (MAX_ROW_SCORE * (n + 1)) (base.Listed (drop_docs (base_hits i.docs b) posts)) (omega arith)
-          (IsStrictlySortedBy-filter by_doc keeps (base_hits i.docs b) all.0, All-filter keeps (IsHitOf i.docs (MAX_ROW_SCORE * n)) (base_hits i.docs b) all.1);
+      base = base_weaker i.docs (MAX_ROW_SCORE * n) (MAX_ROW_SCORE * (n + 1)) (base.Listed (drop_docs (base_hits ds b) posts)) (omega arith)
+          (IsStrictlySortedBy-filter by_doc keeps (base_hits ds b) all.0, All-filter keeps (IsHitOf i.docs (MAX_ROW_SCORE * n)) (base_hits ds b) all.1);
       in_base = All-nil _;
     }
-step_within i b false posts w n fits =
+step_within i ds up known b false posts w n fits =
     record {
       parts = λ e. omega arith;
-      rows = kept_within i (λ r. list_any (meet.is_of_doc r) (base_docs i.docs b)) posts w;
+      rows = in_base_within i b posts w;
       base = (let e : n ≡ n + 1 - 1 = omega arith in subst (λ m. IsBaseOf i.docs (MAX_ROW_SCORE * m) b) e fits);
-      in_base = in_hits i.docs (MAX_ROW_SCORE * n) b posts (All-weaker (IsWithin i.docs (length i.words)) (λ p. p.doc < i.docs) (λ p h. h.doc) posts w.within);
+      in_base = in_hits b posts;
     }
-
-pub known_docs : (i : IndexView) (posts : List Post) → AreWithin i posts → All (λ p. p.doc < i.docs) posts
-known_docs i posts w = All-weaker (IsWithin i.docs (length i.words)) (λ p. p.doc < i.docs) (λ p h. h.doc) posts w.within
 
 -- the hits of an entry behind a part: next are those of a query of these hits and of the part p
 pub record AreHitsBehind (s : Stock) (hits : Base) (p : PartRows) (next : Base) : Type 0 where
@@ -196,38 +211,39 @@ pub record AreHitsBehind (s : Stock) (hits : Base) (p : PartRows) (next : Base) 
   pub are : next ≡ posts_hits (not p.excluded) e.base e.rows
 
 -- ---- hits without their scores
-module _ (s : Stock) (done : List PartRows) (p : PartRows) (posts : List Post) (is : rows_at s.words posts ≡ p.rows) (n : ℕ) (b : Base)
-    (lists : base_docs n b ≡ hits (corpus_in s) done) where
-  dropped_docs : map (λ h. h.doc) (drop_docs (base_hits n b) posts) ≡ filter (λ d. not (list_any (in_doc d) (rows_at s.words posts))) (base_docs n b)
+module _ (s : Stock) (stocked : IsStocked s) (ds : List ℕ) (same : ds ≡ stock_docs s) (done : List PartRows) (p : PartRows) (posts : List Post)
+    (has : HasRows s p.rows posts) (b : Base) (lists : base_docs ds b ≡ hits (corpus_in s) done) where
+  dropped_docs : map (λ h. h.doc) (drop_docs (base_hits ds b) posts) ≡ filter (λ d. not (list_any (in_doc d) (rows_at s.words posts))) (base_docs ds b)
   dropped_docs =
       ap (map (λ (h : Scored). h.doc)) (filter_alike (λ h. not (list_any (is_of h) posts)) (λ h. not (list_any (in_doc h.doc) (rows_at s.words posts)))
-      (base_hits n b) (all_of _ (λ h. ap not (sym (any_through (row_of s.words) (in_doc h.doc) posts))) (base_hits n b)))
-      ∙ filter_through (λ (h : Scored). h.doc) (λ d. not (list_any (in_doc d) (rows_at s.words posts))) (base_hits n b)
+      (base_hits ds b) (all_of _ (λ h. ap not (sym (any_through (row_of s.words) (in_doc h.doc) posts))) (base_hits ds b)))
+      ∙ filter_through (λ (h : Scored). h.doc) (λ d. not (list_any (in_doc d) (rows_at s.words posts))) (base_hits ds b)
 
-  pub docs_more : (excluded : Bool) → p.excluded ≡ excluded → docs_after n b excluded posts ≡ hits (corpus_in s) (done ++ p ∷ [])
-  docs_more true e = dropped_docs ∙ ap (filter (λ d. not (list_any (in_doc d) (rows_at s.words posts)))) lists ∙ sym (hits_excluded s done p posts is e)
+  pub docs_more : (excluded : Bool) → p.excluded ≡ excluded → docs_after ds b excluded posts ≡ hits (corpus_in s) (done ++ p ∷ [])
+  docs_more true e = dropped_docs ∙ ap (filter (λ d. not (list_any (in_doc d) (rows_at s.words posts)))) lists ∙ sym (hits_excluded s done p posts has.is e)
   docs_more false e =
-      ap (λ ds. docs_of (keep_docs posts ds)) lists
+      ap docs_of (kept_posts s stocked has ds same b)
+      ∙ ap (λ ds. docs_of (keep_docs posts ds)) lists
       ∙ kept_docs s.words posts (hits (corpus_in s) done) (ds_rise s done)
-      ∙ sym (hits_positive s done p posts is e)
+      ∙ sym (hits_positive s done p posts has.is e)
 
 -- ---- bases without scores
 pub unscored_base : (ds : List ℕ) → AreDocs ds → IsBase (base.Listed (map with_no_score ds))
 unscored_base ds up = (scored_rise with_no_score (λ d. refl) ds up, All-map (λ h. h.score ≤ 2 ^ 20) with_no_score ds (λ k d l. omega arith))
 
-pub left_base : (n : ℕ) (b : Base) (posts : List Post) → IsBase b → IsBase (base.Listed (drop_docs (base_hits n b) posts))
-left_base n b posts h =
+pub left_base : (ds : List ℕ) → AreDocs ds → (b : Base) (posts : List Post) → IsBase b → IsBase (base.Listed (drop_docs (base_hits ds b) posts))
+left_base ds up b posts h =
     let keeps : Scored → Bool = λ h. not (list_any (is_of h) posts) in
     let all = all_listed b h in
-    (IsStrictlySortedBy-filter by_doc keeps (base_hits n b) all.0, All-filter keeps (λ h. h.score ≤ 2 ^ 20) (base_hits n b) all.1)
+    (IsStrictlySortedBy-filter by_doc keeps (base_hits ds b) all.0, All-filter keeps (λ h. h.score ≤ 2 ^ 20) (base_hits ds b) all.1)
   where
-    all_listed : (b : Base) → IsBase b → AreByDoc (base_hits n b) × All (λ h. h.score ≤ 2 ^ 20) (base_hits n b)
-    all_listed base.All h = (every_rises n, All-map (λ h. h.score ≤ 2 ^ 20) with_no_score (range_with_len 0 n) (λ k d l. omega arith))
+    all_listed : (b : Base) → IsBase b → AreByDoc (base_hits ds b) × All (λ h. h.score ≤ 2 ^ 20) (base_hits ds b)
+    all_listed base.All h = unscored_base ds up
     all_listed (base.Listed hs) h = h
 
 pub unscored_docs : (ds : List ℕ) → map (λ h. h.doc) (map with_no_score ds) ≡ ds
 unscored_docs ds = own_docs with_no_score (λ d. refl) ds
 
-pub base_sorted : (n : ℕ) (b : Base) → IsBase b → AreDocs (base_docs n b)
-base_sorted n base.All h = docs_rise (every n) (every_rises n)
-base_sorted n (base.Listed hs) h = docs_rise hs h.0
+pub base_sorted : (ds : List ℕ) → AreDocs ds → (b : Base) → IsBase b → AreDocs (base_docs ds b)
+base_sorted ds up base.All h = docs_rise (every ds) (every_ascends ds up)
+base_sorted ds up (base.Listed hs) h = docs_rise hs h.0

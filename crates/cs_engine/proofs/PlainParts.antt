@@ -31,7 +31,6 @@ use Rattle.cs_model.proofs.AnswersLemmas.{prefix_rows, exact_rows}
 use Rattle.cs_model.specs.Collection.{named}
 use Rattle.cs_model.specs.Corpus.{Corpus}
 use Rattle.cs_model_kept.specs.Due.{met_of_atom, met_of_chain, met_of_part, met_of_query, met_prefix}
-use Rattle.cs_model_kept.specs.Entries.{EntryOf}
 use Rattle.cs_model_kept.proofs.DueLemmas.{met_exact_atom, met_prefix_atom}
 use Rattle.cs_model_index.specs.Numbered.{rows_at}
 use Rattle.cs_vocab.specs.Ranges.{IsRange}
@@ -39,14 +38,13 @@ use Rattle.cs_engine.specs.Asking.{division}
 use Rattle.cs_engine.specs.Counting.{AreListed, in_listed}
 use Rattle.cs_engine.specs.Plain.{AreWordsOf}
 use Rattle.cs_engine.specs.IndexReading.{AreWithin, HasRows, IsSpanOf}
-use Rattle.cs_engine.specs.Steps.{EntryFits, IsBaseOf, is_in_base, posts_after}
-use Rattle.cs_engine.specs.Sources.{IsSource, SourceView, met_in, seen}
-use Rattle.cs_engine.specs.Stocked.{HoldsBetween, corpus_in, is_between}
-use Rattle.cs_engine.proofs.CountingLemmas.{kept_listed}
+use Rattle.cs_engine.specs.Keeping.{entry_with}
+use Rattle.cs_engine.specs.Steps.{EntryFits, IsBaseOf, is_in_base}
+use Rattle.cs_engine.specs.Sources.{IsSource, SourceView, met_in}
+use Rattle.cs_engine.specs.Stocked.{HoldsBetween, corpus_in, is_between, base_posts}
 use Rattle.cs_engine.proofs.AlternativesLemmas.{lists_begin, lists_end, lists_go_on, ordered_itself}
 use Rattle.cs_engine.proofs.EvaluationLemmas.{joined_reads, met_part-is}
-use Rattle.cs_engine.proofs.RowsInRange.{kept_within}
-use Rattle.cs_engine.proofs.OverSources.{source_within}
+use Rattle.cs_engine.proofs.OverSources.{listed_asked}
 use Rattle.cs_engine.proofs.WalkLemmas.{within_more}
 use Rattle.cs_engine.proofs.AtomsLemmas.{picked_between, span_rows, words_known}
 
@@ -141,19 +139,17 @@ part_words v is p c chains are one (Some w) h =
     }
 
 -- ---- the entry
-module _ (v : SourceView) (hits : Base) (listed : List Bool) (has : AreListed v.docs hits listed) where
+module _ (v : SourceView) (hits : Base) (listed : List Bool) (has : AreListed v.present hits listed) where
   pub listed_entry : (b : List ℕ) → StandsFor b v.index → IsSource v → (lo hi : ℕ) (rows : List Post)
       → rows ≡ filter (in_listed listed) (filter (is_between lo hi) (v.stock b).posts)
-      → ◌≡◌ {A = EntryOf Post} (record { base = hits; rows = rows }) (posts_after v.docs hits false (filter (is_between lo hi) (v.stock b).posts))
-  listed_entry b stands is lo hi rows are =
-      let asked = filter (is_between lo hi) (v.stock b).posts in
-      ap (λ (l : List Post). let e : EntryOf Post = record { base = hits; rows = l } in e)
-      (are ∙ kept_listed (seen v) hits listed asked has (kept_within (seen v) (is_between lo hi) (v.stock b).posts (source_within b v stands is)))
+      → entry_with hits rows ≡ entry_with hits (base_posts hits (filter (is_between lo hi) (v.stock b).posts))
+  listed_entry b stands is lo hi rows are = ap (entry_with hits) (are ∙ listed_asked b v stands is lo hi hits listed has)
 
-module _ (i : IndexView) (hits : Base) (listed : List Bool) (has : AreListed i.docs hits listed) where
-  listed_base : (p : Post) (b : Base) → AreListed i.docs b listed → p.doc < i.docs → in_listed listed p ≡ true → is_in_base b p ≡ true
+module _ (i : IndexView) (present : List Bool) (long : length present ≡ i.docs) (hits : Base) (listed : List Bool) (has : AreListed present hits listed) where
+  listed_base : (p : Post) (b : Base) → AreListed present b listed → p.doc < i.docs → in_listed listed p ≡ true → is_in_base b p ≡ true
   listed_base p base.All h lt passes = refl
-  listed_base p (base.Listed hs) h lt passes = sym (any_through (λ h. h.doc) (λ d. d == p.doc) hs) ∙ sym (h.each p.doc lt) ∙ passes
+  listed_base p (base.Listed hs) h lt passes =
+      sym (any_through (λ h. h.doc) (λ d. d == p.doc) hs) ∙ sym (h.each p.doc (omega (arith, lt, long))) ∙ passes
 
   pub listed_fits : (rows : List Post) → AreWithin i rows → All (λ p. in_listed listed p ≡ true) rows → (n : ℕ) → IsBaseOf i.docs (MAX_ROW_SCORE * n) hits
       → EntryFits i true (n + 1) (record { base = hits; rows = rows })

@@ -45,8 +45,8 @@ use Rattle.cs_engine.specs.Loose.{IsEntryByWords}
 use Rattle.cs_engine.specs.Plain.{AreWordsOf}
 use Rattle.cs_engine.specs.IndexReading.{AreWithin, IsWithin}
 use Rattle.cs_engine.specs.Sources.{IsSource, SourceView, seen}
-use Rattle.cs_engine.specs.Steps.{AreFound, AreHitsOver, EntryFits, IsBaseOf, IsStep, end_positive, last_is_positive, most, posts_after, posts_hits}
-use Rattle.cs_engine.specs.Stocked.{corpus_in, is_between}
+use Rattle.cs_engine.specs.Steps.{AreFound, AreHitsOver, EntryFits, IsBaseOf, IsStep, end_positive, last_is_positive, most, posts_hits}
+use Rattle.cs_engine.specs.Stocked.{corpus_in, stock_docs, is_between, base_posts}
 use Rattle.cs_engine.proofs.EvaluationLemmas.{ends_read, entry_begins, entry_by_hits, entry_ends, entry_unrolled, hits_by, met_query-is, positive_more}
 use Rattle.cs_engine.proofs.FoundLemmas.{is_excluded}
 use Rattle.cs_engine.proofs.KeepingLemmas.{from_stock, in_stock}
@@ -170,8 +170,8 @@ pub more_by_words : (q : Query) (b : List ℕ) (v : SourceView) → StandsFor b 
 more_by_words q b v stands is x hits lo hi l over last asks =
     let s = v.stock b in
     let posts = filter (is_between lo hi) s.posts in
-    more_told q b v stands is x hits (posts_after v.docs hits false posts) l over
-    (step_told s v.docs hits (rows_of_part (corpus_in s) x) posts (is.told b stands).docs (asks.posts b stands).is false (is_excluded s x ∙ last))
+    more_told q b v stands is x hits (entry_with hits (base_posts hits posts)) l over
+    (step_told s (is.told b stands).stocked (stock_docs s) refl hits (rows_of_part (corpus_in s) x) posts (asks.posts b stands) false (is_excluded s x ∙ last))
 
 -- what is read for the last part and for those before it
 parts_met : (v : Division) (ps : List Part) → 1 ≤ length ps

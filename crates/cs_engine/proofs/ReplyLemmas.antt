@@ -27,14 +27,14 @@ use Rattle.cs_meet.specs.Filters.{keep_docs}
 use Rattle.cs_model.specs.Answers.{PartRows, begins, is_listed, hits, pairs, ranked, table_of, facet_part}
 use Rattle.cs_model.specs.Answers as answers
 use Rattle.cs_model.specs.Collection.{named}
-use Rattle.cs_model.specs.Corpus.{Corpus}
+use Rattle.cs_model.specs.Corpus.{Corpus, by_number}
 use Rattle.cs_model.specs.Replies.{Reply, Shown, HitShown, FacetShown}
 use Rattle.cs_model.specs.Requests.{Request, reply_of, reply_to, shown_of, hit_shown, facet_shown}
 use Rattle.cs_tables.specs.declared.tables.Completion.{Completion as Numbered}
 use Rattle.cs_tables.specs.TableListings.{post_table}
 use Rattle.cs_model_index.specs.Numbered.{word_at, row_of, rows_at}
 use Rattle.cs_model_kept.specs.Entries.{scored_hits}
-use Rattle.cs_engine.specs.Stocked.{Stock, corpus_in, base_hits, base_docs, named_at, shown_at, named_rows, named_rows_in, facet_at, title_at, IsStocked}
+use Rattle.cs_engine.specs.Stocked.{Stock, corpus_in, base_hits, base_docs, stock_docs, named_at, shown_at, named_rows, named_rows_in, facet_at, title_at, IsStocked}
 use Rattle.cs_engine.proofs.VocabLemmas.{rows_rise}
 use Rattle.cs_engine.proofs.ListedLemmas.{get_numbered}
 use Rattle.cs_engine.proofs.HitsLemmas.{kept_pairs, listed_docs}
@@ -43,7 +43,7 @@ use Rattle.cs_engine.proofs.TableLemmas.{table_through, table_known}
 
 -- ---- titles
 
-pub titled : (titles : List (List ℕ)) (d : ℕ) (blank : List ℕ) → d < length titles → title_at titles d ≡ get_or titles d blank
+pub titled : (titles : List (List ℕ)) (d : ℕ) (blank : List ℕ) → d < length titles → title_at (by_number titles) d ≡ get_or titles d blank
 titled titles d blank h = ap (λ o. unwrap_or o []) (get_numbered titles d ∙ slice_get-get_or titles d blank h)
 
 take_all_of : {X : Type 0} (P : X → Type 0) (n : ℕ) (xs : List X) → AllByRecursion P xs → AllByRecursion P (take n xs)
@@ -78,13 +78,13 @@ module _ (s : Stock) (kept : IsStocked s) where
 
   -- the rows of a facet in the documents of a base
   pub facet_kept : (b : Base) (name : List ℕ) (posts found : List Post) → rows_at s.words posts ≡ named_rows s name
-      → found ≡ keep_docs posts (base_docs (length s.titles) b) → rows_at s.words found ≡ named_rows_in s b name
+      → found ≡ keep_docs posts (base_docs (stock_docs s) b) → rows_at s.words found ≡ named_rows_in s b name
   facet_kept b name posts found is kept_is =
-      ap (rows_at s.words) kept_is ∙ filter_through (row_of s.words) (λ r. is_listed (base_docs (length s.titles) b) r.doc) posts
-      ∙ ap (filter (λ r. is_listed (base_docs (length s.titles) b) r.doc)) is
+      ap (rows_at s.words) kept_is ∙ filter_through (row_of s.words) (λ r. is_listed (base_docs (stock_docs s) b) r.doc) posts
+      ∙ ap (filter (λ r. is_listed (base_docs (stock_docs s) b) r.doc)) is
 
 module _ (s : Stock) (kept : IsStocked s) (ps : List PartRows) (b : Base) (posts : List Post)
-    (lists : base_hits (length s.titles) b ≡ scored_hits (corpus_in s) ps) where
+    (lists : base_hits (stock_docs s) b ≡ scored_hits (corpus_in s) ps) where
   abbrev k : Corpus
   k = corpus_in s
 
@@ -105,7 +105,7 @@ module _ (s : Stock) (kept : IsStocked s) (ps : List PartRows) (b : Base) (posts
 
     facet_pairs : named_rows_in s b name ≡ pairs k (ps ++ facet_part k name ∷ [])
     facet_pairs =
-        sym (facet_kept s kept b name asked_posts (keep_docs asked_posts (base_docs (length s.titles) b)) asked_is refl)
+        sym (facet_kept s kept b name asked_posts (keep_docs asked_posts (base_docs (stock_docs s) b)) asked_is refl)
         ∙ ap (λ ds. rows_at s.words (keep_docs asked_posts ds)) (listed_docs s ps (facet_part k name) asked_posts facet_is b lists)
         ∙ kept_pairs s ps (facet_part k name) asked_posts facet_is refl
 
@@ -118,9 +118,9 @@ module _ (s : Stock) (kept : IsStocked s) (ps : List PartRows) (b : Base) (posts
       → (c : List Shown) (f : List FacetShown) (h : List HitShown) (tc th : ℕ)
       → c ≡ map shown_of (take r.completions (table_of (rows_at s.words posts)))
       → f ≡ map (facet_at s b r.completions) r.facets
-      → h ≡ map (hit_shown k) (take r.hits (drop r.offset (members_in by_rank (base_hits (length s.titles) b))))
+      → h ≡ map (hit_shown k) (take r.hits (drop r.offset (members_in by_rank (base_hits (stock_docs s) b))))
       → tc ≡ length (table_of (rows_at s.words posts))
-      → th ≡ length (base_hits (length s.titles) b)
+      → th ≡ length (base_hits (stock_docs s) b)
       → ◌≡◌ {A = Reply} (record { completions = c; facets = f; hits = h; total_completions = tc; total_hits = th }) (reply_of k r)
   unfolding reply_of
   reply_made pairs_are r parts c f h tc th c_is f_is h_is tc_is th_is =

@@ -5,6 +5,7 @@
 --   block_within      the posts of a block are in order and in range
 --   in_block          a post of the file is one of some block
 --   one_post_of       of the posts of a file one alone has a document, position and word
+--   stock_fits        the posts of the stock are in range
 --   stocked           what is read of an index file is a stock
 --   stock_corpus      its corpus is that of the file
 use Rattle.std.proofs.Common.{◌≡◌, ℕ, suc, ◌+◌, ◌-◌, ◌<◌, ◌≤◌, ◌==◌, ◌&&◌, Bool, true, false, true≢false, List, [], ◌∷◌, length, get_or, drop, Option, Some}
@@ -16,7 +17,7 @@ use Rattle.std.specs.Ordering.{nat_cmp, ordering_then, eq_by_cmp, is_lt}
 use Rattle.std.specs.declared.cmp.Ordering.{Ordering}
 use Rattle.std.specs.declared.cmp.Ordering.TheVariants.{Less, Equal, Greater}
 use Rattle.std.specs.Cmp.{IsTotalOrder, tied_itself, Equal-is}
-use Rattle.std.specs.FinMap.{IsAntisymmetric}
+use Rattle.std.specs.FinMap.{IsAntisymmetric, contains_key}
 use Rattle.std.specs.Cmp.Lexicographic.{slice_cmp}
 use Rattle.std.specs.Str.{IsUtf8, is_utf8}
 use Rattle.std.proofs.lemmas.Bool.{and_parts, cases_lt}
@@ -42,6 +43,7 @@ use Rattle.cs_file.proofs.HeadsLemmas.{heads_rise, head_within}
 use Rattle.cs_file.proofs.StoodLemmas.{stood, stood_count, stood_block}
 use Rattle.cs_file.proofs.PostsLemmas.{block_docs, block_words}
 use Rattle.cs_meet.specs.Filters.{shares_place}
+use Rattle.cs_model.specs.Answers.{is_listed}
 use Rattle.cs_model.specs.Corpus.{Corpus, by_number}
 use Rattle.cs_model.specs.Weights.{AreWeights}
 use Rattle.cs_model_index.specs.BlockRules.{keeps, is_scored, in_kind, IsBlock}
@@ -50,6 +52,8 @@ use Rattle.cs_model_index.specs.Sections.{contents_of, image_of, file_corpus}
 use Rattle.cs_engine.specs.IndexReading.{by_post, stock_of, IsWithin, AreWithin}
 use Rattle.cs_model_index.specs.Numbered.{row_of, rows_at}
 use Rattle.cs_engine.specs.Stocked.{corpus_in, IsKnown, IsStocked}
+use Rattle.cs_engine.proofs.ListedLemmas.{in_range, keys_numbered}
+use Rattle.cs_engine.proofs.PresentLemmas.{is_titled}
 use Rattle.cs_engine.proofs.UnionLemmas.{one_post}
 use Rattle.cs_engine.proofs.VocabLemmas.{rows_rise}
 
@@ -222,25 +226,32 @@ module _ (b : List ℕ) (i : IndexView) (s : StandsFor b i) (is : IsIndex i) whe
       zip_length [] = refl
       zip_length (x ∷ xs) = zip_one x xs ∙ (let e : length xs ≡ length (x ∷ xs) - 1 = omega arith in e)
 
-  pub docs_are : i.docs ≡ length (stock_of b).titles
+  pub docs_are : i.docs ≡ length (image_of b).titles
   docs_are = let offsets = is.offsets in let same = ap length (stood b i s).offsets in omega (arith, offsets, same, titles_count)
 
   texts : All IsUtf8 i.words
   texts = λ k d l. IsUtf8-from_is_utf8 (get_or i.words k d) (and_parts (is_utf8 (get_or i.words k d)) _ (is.words k d l)).0
+
+  -- each document has a title
+  title_there : (d : ℕ) → d < i.docs → contains_key (stock_of b).titles d ≡ true
+  title_there d lt =
+      sym (is_titled (stock_of b).titles d)
+      ∙ ap (λ ds. is_listed ds d) (keys_numbered (image_of b).titles)
+      ∙ in_range 0 (length (image_of b).titles) d (omega arith) (omega (arith, lt, docs_are))
+
+  pub stock_fits : All (IsWithin i.docs (length i.words)) (stock_of b).posts
+  stock_fits = λ k d l. within_all (get_or (stock_of b).posts k d) (in_file (get_or (stock_of b).posts k d) (Contains-get_or (stock_of b).posts k d l))
 
   pub stocked : IsStocked (stock_of b)
   stocked = record {
     words = subst (IsStrictlySortedBy (slice_cmp nat_cmp)) words_are is.ascending;
     few_words = (let few = is.few_words in omega (arith, ap length words_are, few));
     texts = subst (All IsUtf8) words_are texts;
-    few_docs = (let few = is.few_docs in omega (arith, docs_are, few));
     sorted = places_rise (stock_of b).posts (listing-rises by_post all) (λ x y in_x in_y same. one_of_all x y (in_file x in_x) (in_file y in_y) same);
     known = λ k d l.
-        let x = get_or (stock_of b).posts k d in
-        let w = within_all x (in_file x (Contains-get_or (stock_of b).posts k d l)) in
-        let doc = w.doc in
+        let w = stock_fits k d l in
         let word = w.word in
-        record { doc = omega (arith, doc, docs_are); word = omega (arith, word, ap length words_are); score_from = w.score_from; score_to = w.score_to };
+        record { doc = title_there (get_or (stock_of b).posts k d).doc w.doc; word = omega (arith, word, ap length words_are); score_from = w.score_from; score_to = w.score_to };
   }
 
   pub stock_corpus : corpus_in (stock_of b) ≡ file_corpus b

@@ -1,8 +1,6 @@
 -- Alternatives, and chains of linked atoms, by the posts that stand for their rows.
 --
 --   one_post         of sorted posts one alone has a document, position and word
---   united           what unites two lists of picked posts stands for the listing of their rows
---   united_more      one more list goes into a listing
 --   linked_phrase, linked_near    links of rows are links of posts
 use Rattle.std.proofs.Common.{◌≡◌, ℕ, ◌+◌, ◌-◌, ◌<◌, ◌==◌, ◌&&◌, ◌||◌, Bool, true, false, true≢false, not, List, [], ◌∷◌, ◌++◌, length, map, drop}
 use Rattle.std.proofs.Common.{drop-cons, add-one, get_or, cond, refl, sym, ◌∙◌, ap, subst, arith}
@@ -25,7 +23,7 @@ use Rattle.cs_base.specs.declared.content.query.Link.{Link}
 use Rattle.cs_base.specs.declared.content.query.Link.TheVariants.{Phrase, Near}
 use Rattle.cs_base.proofs.MembersLemmas.{all_then}
 use Rattle.cs_base.proofs.ListsLemmas.{filter_through, filter_alike, any_through}
-use Rattle.cs_meet.specs.Filters.{shares_place, missing, follow, near, stands_behind, is_near}
+use Rattle.cs_meet.specs.Filters.{shares_place, follow, near, stands_behind, is_near}
 use Rattle.cs_model.specs.Answers.{LinkedRows, is_linked, linked_to, chained, rows_of_linked, rows_of_atom}
 use Rattle.cs_model_index.specs.Numbered.{row_of, rows_at}
 use Rattle.cs_engine.specs.Stocked.{Stock, corpus_in, linked_posts, IsKnown, IsStocked, IsPicked}
@@ -76,40 +74,7 @@ one_post posts up x y (i, i_in, at_x) (j, j_in, at_y) same =
     (ap (λ p. by_place p x) (sym at_y') ∙ ap (by_place (get_or posts j x)) (sym at_x) ∙ Less-from_sorted by_place posts j i x up h i_in)
     (tied_on x y same))))
 
--- ---- unions
-
-module _ (posts : List Post) (up : AreSorted posts) (test : Post → Bool) where
-  untested : (x : Post) (a : List Post) → Contains posts x → AllByRecursion (Contains posts) a → list_any (shares_place x) a ≡ true → list_any test a ≡ false
-      → test x ≡ false
-  untested x [] inside all shared none = absurd (true≢false (sym shared))
-  untested x (y ∷ a) inside all shared none =
-      elim (test y) as (λ t. test y ≡ t → (t || list_any test a) ≡ false → test x ≡ false) [
-        | true ↦ λ e n. absurd (true≢false n)
-        | false ↦ λ e n. elim (shares_place x y) as (λ s. shares_place x y ≡ s → (s || list_any (shares_place x) a) ≡ true → test x ≡ false) [
-          | true ↦ λ same r. ap test (one_post posts up x y inside all.0 same) ∙ e
-          | false ↦ λ same r. untested x a inside all.1 r n
-        ] refl shared
-      ] refl none
-
-  any_missing : (a b : List Post) → AllByRecursion (Contains posts) a → AllByRecursion (Contains posts) b → list_any test a ≡ false
-      → list_any test (missing a b) ≡ list_any test b
-  any_missing a [] all_a all_b none = refl
-  any_missing a (x ∷ b) all_a all_b none =
-      elim (list_any (shares_place x) a) as (λ s. list_any (shares_place x) a ≡ s
-      → list_any test (cond (not s) (x ∷ missing a b) (missing a b)) ≡ (test x || list_any test b)) [
-        | true ↦ λ s. any_missing a b all_a all_b.1 none ∙ sym (ap (λ t. t || list_any test b) (untested x a all_b.0 all_a s none))
-        | false ↦ λ s. ap (λ t. test x || t) (any_missing a b all_a all_b.1 none)
-      ] refl
-
-  pub any_united : (a b : List Post) → AllByRecursion (Contains posts) a → AllByRecursion (Contains posts) b
-      → list_any test (a ++ missing a b) ≡ list_any test (a ++ b)
-  any_united a b all_a all_b =
-      list_any-append test a (missing a b)
-      ∙ elim (list_any test a) as (λ t. list_any test a ≡ t → (t || list_any test (missing a b)) ≡ (t || list_any test b)) [
-        | true ↦ λ e. refl
-        | false ↦ λ e. any_missing a b all_a all_b e
-      ] refl
-      ∙ sym (list_any-append test a b)
+-- ---- what is read
 
 pub known_at : (s : Stock) (all : List Post) (p : Post) → Contains all p → All (IsKnown s) all → IsKnown s p
 known_at s all p (k, l, e) h = subst (IsKnown s) e (h k p l)

@@ -1,11 +1,10 @@
 -- Wide ranges of words, and what a query asks by one.
 --
---   whole_range      of all documents each row of some words is behind a part that asks for them
 --   by_range, by_entry       a query that asks for a wide range alone: its last part, and its own entry
 --   too_large        that is larger than may be kept
 --   range_counts     its hits and its table by what is found of the range
 --   alone_met        what is read for the words is within what is read for the query
-use Rattle.std.proofs.Common.{◌≡◌, ℕ, ◌+◌, ◌-◌, ◌≤◌, true, false, not, List, [], length, map, take, get_or, replicate, refl, sym, ap, subst, ◌∙◌, arith}
+use Rattle.std.proofs.Common.{◌≡◌, ℕ, ◌+◌, ◌-◌, ◌≤◌, not, List, [], length, map, take, get_or, refl, sym, ap, ◌∙◌, arith}
 use Rattle.std.specs.Prelude.{filter, sum}
 use Rattle.std.proofs.lemmas.List.Sums.{sum_by-cons}
 use Rattle.cs_base.specs.declared.content.doc.Base.{Base}
@@ -26,23 +25,14 @@ use Rattle.cs_engine.specs.Asking.{division}
 use Rattle.cs_engine.specs.Blockwise.{HasFound}
 use Rattle.cs_engine.specs.Sources.{IsSource, SourceView, met_in, seen}
 use Rattle.cs_engine.specs.Loose.{AreCountsFor, AreLastWords, IsEntryByWords}
-use Rattle.cs_engine.specs.Steps.{AreHitsOver, posts_after}
+use Rattle.cs_engine.specs.Steps.{AreHitsOver}
 use Rattle.cs_engine.specs.Stocked.{corpus_in, is_between}
 use Rattle.cs_engine.specs.Finding.{AsksAlone, AsksWide}
-use Rattle.cs_engine.proofs.BehindLemmas.{rows_are}
-use Rattle.cs_engine.proofs.CountingLemmas.{everywhere}
+use Rattle.cs_engine.proofs.CountingLemmas.{listed_all}
 use Rattle.cs_engine.proofs.EvaluationLemmas.{met_query-is}
 use Rattle.cs_engine.proofs.LooseLemmas.{found_counts, large_entry}
-use Rattle.cs_engine.proofs.OverSources.{all_within}
+use Rattle.cs_engine.proofs.OverSources.{all_there}
 use Rattle.cs_engine.proofs.PlansLemmas.{IsLast, ends_last, first_parts, more_by_words}
-
--- ---- what is read
-module _ (b : List ℕ) (v : SourceView) (stands : StandsFor b v.index) (is : IsSource v) (lo hi : ℕ) where
-  pub whole_range : filter (is_between lo hi) (v.stock b).posts ≡ (posts_after v.docs base.All false (filter (is_between lo hi) (v.stock b).posts)).rows
-  whole_range =
-      let all = replicate v.docs true in
-      let lists = everywhere v.docs all refl in
-      sym (all_within b v stands is lo hi all lists) ∙ rows_are b v stands is lo hi all base.All lists
 
 -- ---- what is asked
 module _ (v : SourceView) (q : Query) (lo hi : ℕ) (asks : AsksWide v q lo hi) where
@@ -76,17 +66,14 @@ module _ (v : SourceView) (q : Query) (lo hi : ℕ) (asks : AsksWide v q lo hi) 
 
     pub too_large : kept_fresh (entry_of (corpus_in (v.stock b)) q) ≡ kept.TooLarge
     too_large =
-        let all = replicate v.docs true in
-        let has = everywhere v.docs all refl in
+        let has = listed_all v.present v.present refl in
         let many = asks.many b stands in
-        large_entry v q base.All lo hi by_range all has b stands is by_entry (filter (is_between lo hi) (v.stock b).posts)
-        (sym (all_within b v stands is lo hi all has)) (omega (arith, many))
+        large_entry v q base.All lo hi by_range v.present has b stands is by_entry (filter (is_between lo hi) (v.stock b).posts)
+        (sym (all_there b v stands is lo hi v.present refl)) (omega (arith, many))
 
     pub range_counts : (hits : Base) (counts : WordCountsView) → HasFound base.All (filter (is_between lo hi) (v.stock b).posts) hits counts
         → AreCountsFor v b q hits counts
-    range_counts hits counts over =
-        found_counts v q base.All lo hi by_range b stands is by_entry hits counts
-        (subst (λ rows. HasFound base.All rows hits counts) (whole_range b v stands is lo hi) over)
+    range_counts hits counts over = found_counts v q base.All lo hi by_range b stands is by_entry hits counts over
 
 -- what is read for them is what is read for the query
 pub alone_met : (v : SourceView) (q : Query) {parts : List Part} {lo hi : ℕ} → parts ≡ (out-Query q).parts → AsksAlone v parts lo hi

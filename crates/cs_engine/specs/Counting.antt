@@ -6,7 +6,7 @@
 --   counted_rows blocks first last lo hi listed     the posts that are counted in the blocks from number first up to last, one block
 --                            behind the other
 --   AreMarked hits old new   the documents of hits are listed beside those that were
---   AreListed docs b listed  which of so many documents a base lists
+--   AreListed present b listed  which of the documents that are there a base lists
 --   CountsFacet lo hi rows b marks     rows of a facet's words are counted in the documents that a base lists
 use Rattle.std.specs.Prelude.{◌≡◌, ℕ, ◌-◌, ◌*◌, ◌<◌, ◌≤◌, ◌||◌, Bool, false, List, length, map, take, drop, flat_map, slice_index_or}
 use Rattle.cs_base.specs.declared.content.doc.Base.{Base}
@@ -19,7 +19,7 @@ use Rattle.cs_model.specs.Answers.{is_listed}
 use Rattle.cs_tables.specs.WordCounts.{chosen}
 use Rattle.cs_engine.specs.IndexReading.{AreWithin}
 use Rattle.cs_engine.specs.Steps.{IsBaseOf}
-use Rattle.cs_engine.specs.Stocked.{base_docs}
+use Rattle.cs_engine.specs.Stocked.{base_docs, present_docs}
 
 -- a document behind the last of the list isn't
 abbrev pub in_listed : List Bool → Post → Bool
@@ -35,17 +35,19 @@ AreMarked hits old new = (length new ≡ length old) × ((d : ℕ) → d < lengt
     → slice_index_or new d false ≡ (slice_index_or old d false || is_listed (map (λ h. h.doc) hits) d))
 
 -- All lists each of them
-pub record AreListed (docs : ℕ) (b : Base) (listed : List Bool) : Type 0 where
-  pub long : length listed ≡ docs
-  pub each : (d : ℕ) → d < docs → slice_index_or listed d false ≡ is_listed (base_docs docs b) d
+pub record AreListed (present : List Bool) (b : Base) (listed : List Bool) : Type 0 where
+  pub long : length listed ≡ length present
+  pub each : (d : ℕ) → d < length present → slice_index_or listed d false ≡ is_listed (base_docs (present_docs present) b) d
 
 -- whatever store the rows were read from, and whatever else is known of the index
 pub record CountsFacet (lo hi : ℕ) (rows : List Post) (b : Base) (marks : List Bool) : Type 0 where
   pub index : IndexView
+  pub present : List Bool
+  pub numbers : length present ≡ index.docs
   pub few_docs : index.docs ≤ MAX_DOCS
   pub few_words : length index.words ≤ MAX_WORDS
   pub ordered : lo ≤ hi
   pub words : hi ≤ length index.words
   pub within : AreWithin index rows
   pub base : IsBaseOf index.docs (MAX_ROW_SCORE * MAX_PARTS) b
-  pub listed : AreListed index.docs b marks
+  pub listed : AreListed present b marks

@@ -26,6 +26,7 @@ use Rattle.cs_base.specs.declared.content.scores.TheConstants.{MAX_ROW_SCORE}
 use Rattle.cs_file.specs.CallAnswers.{LeavesStore}
 use Rattle.cs_file.specs.declared.fault.FetchFault.{FetchFault}
 use Rattle.cs_file.specs.Indexes.{HasAllBlocks, IndexView, IsIndex, StandsFor}
+use Rattle.cs_model.specs.Corpus.{by_number}
 use Rattle.cs_model_index.specs.Images.{image_posts}
 use Rattle.cs_model_index.specs.Sections.{image_of}
 use Rattle.cs_model_index.specs.Numbered.{rows_at}
@@ -38,7 +39,7 @@ by_post = then_cmp by_place (on (λ p. p.score) nat_cmp)
 
 -- the posts of all blocks in one order; it counts only where the bytes are an index file
 abbrev pub stock_of : List ℕ → Stock
-stock_of b = record { titles = (image_of b).titles; words = (image_of b).words; posts = members_in by_post (image_posts (image_of b)) }
+stock_of b = record { titles = by_number (image_of b).titles; words = (image_of b).words; posts = members_in by_post (image_posts (image_of b)) }
 
 -- nothing is said of a store that tells nothing, and of one that tells other bytes
 abbrev pub WhereStood : Option (List ℕ) → IndexView → (List ℕ → Type 0) → Type 0

@@ -9,7 +9,7 @@
 --   IsEntryByWords b v q hits lo hi  over the bytes of its index a source's own entry of a query is that of these hits and words
 --   IsTableFor v b q cut hits t      over the bytes of its index a table is that of a query of these hits, cut
 --   AreCountsFor v b q hits t        over them what is counted gives the table of a query of these hits
-use Rattle.std.specs.Prelude.{◌≡◌, ℕ, ◌+◌, ◌-◌, ◌*◌, ◌≤◌, ◌<◌, true, false, nat_lt, List, [], ◌∷◌, length, map, filter, take, slice_index}
+use Rattle.std.specs.Prelude.{◌≡◌, ℕ, ◌+◌, ◌-◌, ◌*◌, ◌≤◌, ◌<◌, true, nat_lt, List, [], ◌∷◌, length, map, filter, take, slice_index}
 use Rattle.std.specs.Prelude.{if◌then◌else◌}
 use Rattle.cs_base.specs.declared.content.doc.Base.{Base}
 use Rattle.cs_base.specs.declared.content.doc.Post.{Post}
@@ -22,11 +22,11 @@ use Rattle.cs_tables.specs.TableListings.{post_table}
 use Rattle.cs_tables.specs.WordCounts.{WordCountsView}
 use Rattle.cs_tables.specs.declared.tables.Table.{Table}
 use Rattle.cs_engine.specs.Blockwise.{CountsTable}
-use Rattle.cs_engine.specs.Keeping.{IsEntryOver}
+use Rattle.cs_engine.specs.Keeping.{IsEntryOver, entry_with}
 use Rattle.cs_engine.specs.IndexReading.{AreWithin}
 use Rattle.cs_engine.specs.Sources.{SourceView, seen}
-use Rattle.cs_engine.specs.Steps.{AreFound, IsBaseOf, last_is_positive, posts_after}
-use Rattle.cs_engine.specs.Stocked.{corpus_in, is_between}
+use Rattle.cs_engine.specs.Steps.{AreFound, IsBaseOf, last_is_positive}
+use Rattle.cs_engine.specs.Stocked.{corpus_in, is_between, base_posts}
 
 -- 0 where the document has no row
 abbrev pub best_of : List Post → ℕ → ℕ
@@ -52,7 +52,7 @@ pub record AreLastWords (i : IndexView) (q : Query) (hits : Base) (lo hi : ℕ) 
 -- its base are the hits, and its rows are those of these words in them
 abbrev pub IsEntryByWords : List ℕ → SourceView → Query → Base → ℕ → ℕ → Type 0
 IsEntryByWords b v q hits lo hi =
-    IsEntryOver (corpus_in (v.stock b)) (seen v) q (posts_after v.docs hits false (filter (is_between lo hi) (v.stock b).posts))
+    IsEntryOver (corpus_in (v.stock b)) (seen v) q (entry_with hits (base_posts hits (filter (is_between lo hi) (v.stock b).posts)))
 
 -- of posts that stand for the pairs, in order
 pub record IsTableFor (v : SourceView) (b : List ℕ) (q : Query) (cut : ℕ) (hits : Base) (t : Table) : Type 0 where

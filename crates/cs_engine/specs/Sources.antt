@@ -31,7 +31,7 @@ use Rattle.cs_vocab.specs.Ranges.{IsRange}
 use Rattle.cs_engine.specs.Asking.{division}
 use Rattle.cs_engine.specs.Counting.{counted_rows}
 use Rattle.cs_engine.specs.IndexReading.{IsSpanOf, stock_of}
-use Rattle.cs_engine.specs.Stocked.{IsStocked, Stock, is_between}
+use Rattle.cs_engine.specs.Stocked.{IsStocked, Stock, stock_docs, is_between, present_docs}
 
 -- an index without rows in memory has as many words before one as the word's number says
 pub record SourceView : Type 0 where
@@ -87,13 +87,12 @@ pub record IsIn (v : SourceView) (p : Post) : Type 0 where
   pub there : is_there v.present p ≡ true
   pub ranged : IsRanged (seen v) p
 
--- the rows have the members of the stock's, each once, in documents that are there; the blocks that hold some words have all their rows in
--- blocks; and rows of blocks and memory can be counted together
+-- the documents are those that are there; the rows have the members of the stock's, each once; the blocks that hold some words have all their
+-- rows in blocks; and rows of blocks and memory can be counted together
 pub record IsTold (v : SourceView) (b : List ℕ) : Type 0 where
   pub stocked : IsStocked (v.stock b)
-  pub docs : v.docs ≡ length (v.stock b).titles
+  pub docs : present_docs v.present ≡ stock_docs (v.stock b)
   pub words : v.words ≡ (v.stock b).words
-  pub there : All (λ p. is_there v.present p ≡ true) (v.stock b).posts
   pub count : length (v.blocks b) ≡ length v.index.heads
   pub alike : (t : Post → Bool) → list_any t (all_rows v b) ≡ list_any t (v.stock b).posts
   pub long : (t : Post → Bool) → length (filter t (all_rows v b)) ≡ length (filter t (v.stock b).posts)

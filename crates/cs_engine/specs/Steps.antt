@@ -3,9 +3,9 @@
 -- Source: this engine's own.
 --
 --   posts_hits positive b posts     the hits of an entry of this base and these posts; positive says whether the last part is
---   posts_after n hits excluded posts   the entry behind one part more, whose posts these are, over n documents
+--   posts_after ds hits excluded posts  the entry behind one part more, whose posts these are, over the documents ds
 --   with_no_score d                 the document d with the score 0
---   docs_after n hits excluded posts    the documents of hits behind one part more, whose posts these are, over n documents
+--   docs_after ds hits excluded posts   the documents of hits behind one part more, whose posts these are, over the documents ds
 --   IsHitOf docs bound h            a hit's document is in range, and its score not above the bound
 --   IsBaseOf docs bound b           a base's documents ascend and are in range, and no score of it is above the bound
 --   most positive n                 the greatest score of a base of an entry of n parts
@@ -27,31 +27,31 @@ use Rattle.cs_base.specs.declared.content.query.Query.{Query, out-Query}
 use Rattle.cs_base.specs.declared.content.query.Part.{Part, out-Part}
 use Rattle.cs_base.specs.declared.content.scores.TheConstants.{MAX_ROW_SCORE}
 use Rattle.cs_file.specs.Indexes.{IndexView}
-use Rattle.cs_meet.specs.Filters.{keep_docs, drop_docs}
+use Rattle.cs_meet.specs.Filters.{drop_docs}
 use Rattle.cs_model.specs.Answers.{PartRows, pairs, parts_of}
 use Rattle.cs_model_kept.specs.Entries.{EntryOf, base_of, entry_at, entry_after, is_begun}
 use Rattle.cs_model_kept.specs.Entries as kept
 use Rattle.cs_rank.specs.DocScores.{doc_scores}
 use Rattle.cs_engine.specs.IndexReading.{AreWithin}
 use Rattle.cs_model_index.specs.Numbered.{rows_at}
-use Rattle.cs_engine.specs.Stocked.{Stock, base_hits, base_docs, corpus_in}
+use Rattle.cs_engine.specs.Stocked.{Stock, base_hits, corpus_in, base_posts}
 
 -- its posts over its base where the last part is positive, and else the base
 abbrev pub posts_hits : Bool → Base → List Post → Base
 posts_hits positive b posts = if positive then base.Listed (doc_scores b posts) else b
 
 -- an excluded part takes hits away and leaves no posts, and a positive one leaves its posts in the hits
-abbrev pub posts_after : ℕ → Base → Bool → List Post → EntryOf Post
-posts_after n hits excluded posts = if excluded then record { base = base.Listed (drop_docs (base_hits n hits) posts); rows = [] }
-    else record { base = hits; rows = keep_docs posts (base_docs n hits) }
+abbrev pub posts_after : List ℕ → Base → Bool → List Post → EntryOf Post
+posts_after ds hits excluded posts = if excluded then record { base = base.Listed (drop_docs (base_hits ds hits) posts); rows = [] }
+    else record { base = hits; rows = base_posts hits posts }
 
 -- as of a query without a positive part
 abbrev pub with_no_score : ℕ → Scored
 with_no_score d = record { doc = d; score = 0 }
 
 -- those without a post where the part is excluded, and those with one where it isn't
-abbrev pub docs_after : ℕ → Base → Bool → List Post → List ℕ
-docs_after n hits excluded posts = if excluded then map (λ h. h.doc) (drop_docs (base_hits n hits) posts) else docs_of (keep_docs posts (base_docs n hits))
+abbrev pub docs_after : List ℕ → Base → Bool → List Post → List ℕ
+docs_after ds hits excluded posts = if excluded then map (λ h. h.doc) (drop_docs (base_hits ds hits) posts) else docs_of (base_posts hits posts)
 
 -- the document is below docs, and the score at most the bound
 pub record IsHitOf (docs bound : ℕ) (h : Scored) : Type 0 where

@@ -2,8 +2,10 @@
 --
 -- Source: this engine's own, over the posts and rows of Numbered of cs_model_index.
 --
---   Stock                  titles, words and posts
+--   Stock                  titles by document number, words and posts
 --   corpus_in s            the corpus of a stock
+--   stock_docs s              the numbers of its documents
+--   present_docs present   the numbers that are those of documents
 --   IsKnown s p            the post's document and word are there
 --   IsStocked s            what always holds of what is read of an index
 --   IsPicked s posts       posts are some of the stock's, in order
@@ -11,15 +13,16 @@
 --   is_between lo hi p     the post's word is one of these
 --   named_rows s n         the rows of the facet words of a name
 --   linked_posts link a b  the posts of b that are linked to a post of a
---   every n                the documents from 0 up to n, each with the score 0
---   base_hits n base       the documents that a base lists, of n documents, with their scores
---   base_docs n base       their numbers
+--   every ds               documents, each with the score 0
+--   base_hits ds base      the documents that a base lists, of the documents ds, with their scores
+--   base_docs ds base      their numbers
+--   base_posts base posts  the posts of the documents that a base lists
 --   named_at ws c          a completion with its word in place of the word's number
 --   shown_at ws c          it as it is shown
---   title_at titles d      the title of document d; the empty text where there are fewer
+--   title_at titles d      the title of document d; the empty text where there is none
 --   named_rows_in s base n the rows of named_rows s n in the documents of a base
 --   facet_at s base cut n  their table as it is shown, at most cut words of it
-use Rattle.std.specs.Prelude.{ℕ, ◌≡◌, ◌≤◌, ◌<◌, ◌&&◌, Bool, nat_le, nat_lt, List, [], map, filter, take, length}
+use Rattle.std.specs.Prelude.{ℕ, ◌≡◌, ◌≤◌, ◌<◌, ◌&&◌, Bool, true, false, nat_le, nat_lt, List, [], map, filter, take, length, slice_index_or}
 use Rattle.std.specs.List.{All, Contains, range_with_len}
 use Rattle.std.specs.Option.{unwrap_or}
 use Rattle.std.specs.FinMap as map
@@ -35,41 +38,48 @@ use Rattle.cs_base.specs.declared.content.doc.Scored.{Scored}
 use Rattle.cs_base.specs.declared.content.query.Link.{Link}
 use Rattle.cs_base.specs.declared.content.query.Link.TheVariants.{Phrase, Near}
 use Rattle.cs_base.specs.content.Orders.{AreSorted}
-use Rattle.cs_base.specs.declared.content.limits.TheConstants.{MAX_DOCS, MAX_WORDS}
+use Rattle.cs_base.specs.declared.content.limits.TheConstants.{MAX_WORDS}
 use Rattle.cs_base.specs.declared.content.scores.TheConstants.{MAX_ROW_SCORE}
-use Rattle.cs_meet.specs.Filters.{follow, near}
+use Rattle.cs_meet.specs.Filters.{follow, keep_docs, near}
 use Rattle.cs_model.specs.Answers.{Completion, begins, is_listed, table_of}
 use Rattle.cs_model.specs.Collection.{named}
-use Rattle.cs_model.specs.Corpus.{Corpus, by_number}
+use Rattle.cs_model.specs.Corpus.{Corpus}
 use Rattle.cs_model.specs.Replies.{Shown, FacetShown}
 use Rattle.cs_model.specs.Requests.{shown_of}
 use Rattle.cs_model_index.specs.Numbered.{word_at, rows_at}
 use Rattle.cs_tables.specs.declared.tables.Completion.{Completion as Numbered}
 
--- the title of document 0 and the word of number 0 come first; there may be none
+-- there may be no title, and numbers without one between others; the word of number 0 comes first
 pub record Stock : Type 0 where
-  pub titles : List (List ℕ)
+  pub titles : map.FinMap nat_cmp (List ℕ)
   pub words : List (List ℕ)
   pub posts : List Post
 
 -- what a query is asked over; of no posts it has no row
 abbrev pub corpus_in : Stock → Corpus
-corpus_in s = record { titles = by_number s.titles; rows = rows_at s.words s.posts }
+corpus_in s = record { titles = s.titles; rows = rows_at s.words s.posts }
+
+-- ascending; those that have a title
+abbrev pub stock_docs : Stock → List ℕ
+stock_docs s = map.keys s.titles
+
+-- ascending; where each number is one, all from 0 on
+abbrev pub present_docs : List Bool → List ℕ
+present_docs present = filter (λ d. slice_index_or present d false) (range_with_len 0 (length present))
 
 -- ---- what is read
 -- its document has a title, its word is in the vocabulary, and its score is one that a row may have
 pub record IsKnown (s : Stock) (p : Post) : Type 0 where
-  pub doc : p.doc < length s.titles
+  pub doc : map.contains_key s.titles p.doc ≡ true
   pub word : p.word < length s.words
   pub score_from : 1 ≤ p.score
   pub score_to : p.score ≤ MAX_ROW_SCORE
 
--- words ascend and are texts, posts ascend and are known, and there aren't too many
+-- words ascend and are texts, and there aren't too many; posts ascend and are known
 pub record IsStocked (s : Stock) : Type 0 where
   pub words : IsStrictlySortedBy (slice_cmp nat_cmp) s.words
   pub few_words : length s.words ≤ MAX_WORDS
   pub texts : All IsUtf8 s.words
-  pub few_docs : length s.titles ≤ MAX_DOCS
   pub sorted : AreSorted s.posts
   pub known : All (IsKnown s) s.posts
 
@@ -98,18 +108,23 @@ linked_posts Phrase a b = follow a b
 linked_posts Near a b = near a b
 
 -- ---- hits
--- by document ascending; none for 0
-abbrev pub every : ℕ → List Scored
-every n = map (λ d. record { doc = d; score = 0 }) (range_with_len 0 n)
+-- in their order
+abbrev pub every : List ℕ → List Scored
+every ds = map (λ d. record { doc = d; score = 0 }) ds
 
 -- a base that stands for all lists every document, with the score 0
-abbrev pub base_hits : ℕ → Base → List Scored
-base_hits n base.All = every n
-base_hits n (base.Listed hs) = hs
+abbrev pub base_hits : List ℕ → Base → List Scored
+base_hits ds base.All = every ds
+base_hits ds (base.Listed hs) = hs
 
 -- in the order of the base
-abbrev pub base_docs : ℕ → Base → List ℕ
-base_docs n b = map (λ h. h.doc) (base_hits n b)
+abbrev pub base_docs : List ℕ → Base → List ℕ
+base_docs ds b = map (λ h. h.doc) (base_hits ds b)
+
+-- of a base that stands for all they are all
+abbrev pub base_posts : Base → List Post → List Post
+base_posts base.All posts = posts
+base_posts (base.Listed hs) posts = keep_docs posts (map (λ h. h.doc) hs)
 
 -- ---- tables
 -- its count stays
@@ -121,12 +136,12 @@ abbrev pub shown_at : List (List ℕ) → Numbered → Shown
 shown_at ws c = shown_of (named_at ws c)
 
 -- as a hit is shown with it
-abbrev pub title_at : List (List ℕ) → ℕ → List ℕ
-title_at titles d = unwrap_or (map.get (by_number titles) d) []
+abbrev pub title_at : map.FinMap nat_cmp (List ℕ) → ℕ → List ℕ
+title_at titles d = unwrap_or (map.get titles d) []
 
 -- in order; none where no document of the base has the facet
 abbrev pub named_rows_in : Stock → Base → List ℕ → List Row
-named_rows_in s b n = filter (λ r. is_listed (base_docs (length s.titles) b) r.doc) (named_rows s n)
+named_rows_in s b n = filter (λ r. is_listed (base_docs (stock_docs s) b) r.doc) (named_rows s n)
 
 -- a facet that is asked is shown, also with no word
 abbrev pub facet_at : Stock → Base → ℕ → List ℕ → FacetShown

@@ -6,7 +6,7 @@ ghost use Rattle.cs_base.specs.outside.Causes.{ReadsWithin};
 ghost use Rattle.cs_file.specs.Indexes.{IsIndex};
 ghost use Rattle.cs_engine.specs.{Blockwise.{AreMany, HasFound, rows_within}, Counting.{AreListed}, GatheredRows.{HasGathered}};
 ghost use Rattle.cs_engine.specs.{IndexReading.{IsWordRange, OnlyReads, WhereStood}, Sources.{CanRead, seen, source_of}};
-ghost use Rattle.cs_engine.specs.{Steps.{IsBaseOf, posts_after}, Stocked.{is_between}};
+ghost use Rattle.cs_engine.specs.{Steps.{IsBaseOf}, Stocked.{is_between, base_posts}};
 
 use crate::best::{blank_table, raise_held, raise_keys, raise_rows, scored_in};
 use crate::chosen::count_chosen;
@@ -60,13 +60,13 @@ pub(crate) fn found_behind<I: Source, S: Store>(
 ) -> Result<(Base, WordCounts), FetchFault>
     requires words { IsWordRange (seen (I.view index.now)) words.0 words.1 }
     requires base { IsBaseOf (I.view index.now).docs (MAX_ROW_SCORE * (MAX_PARTS - 1)) hits.now }
-    requires listed { AreListed (I.view index.now).docs hits.now listed.now }
+    requires listed { AreListed (I.view index.now).present hits.now listed.now }
     requires gathered { HasGathered (I.view index.now) (S.bytes store.old) words.0 words.1 listed.now gathered.now }
     requires opened { CanRead (S.bytes store.old) (I.view index.now) }
 
     ensures told { WhereStood (S.bytes store.old) (I.view index.now).index
         (λ b. IfOk result (λ found. HasFound hits.now
-        (posts_after (I.view index.now).docs hits.now false (filter (is_between words.0 words.1) ((I.view index.now).stock b).posts)).rows found.0 found.1)) }
+        (base_posts hits.now (filter (is_between words.0 words.1) ((I.view index.now).stock b).posts)) found.0 found.1)) }
     ensures base { IfOk result (λ found. IsBaseOf (I.view index.now).docs (MAX_ROW_SCORE * MAX_PARTS) found.0) }
     ensures words { IfOk result (λ found. found.1.high ≡ words.1) }
     ensures store { OnlyReads S.bytes S.lent S.faults (I.view index.now).index store.old store.new result }

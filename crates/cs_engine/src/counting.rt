@@ -1,33 +1,35 @@
 //! Which documents a base lists, and the words of rows that were gathered, counted.
-ghost use Rattle.std.specs.Prelude.{◌≡◌, ◌≤◌, ◌<◌, ◌*◌, [], filter, length, map, take, IfOk};
+ghost use Rattle.std.specs.Prelude.{◌≡◌, ◌≤◌, ◌<◌, ◌*◌, [], length, map, IfOk};
 ghost use Rattle.std.specs.List.{All};
 ghost use Rattle.cs_base.specs.declared.content.limits.TheConstants.{MAX_PARTS};
 ghost use Rattle.cs_base.specs.declared.content.scores.{TheConstants.{MAX_ROW_SCORE}, Weights.{Weights}};
-ghost use Rattle.cs_base.specs.outside.Causes.{ReadsWithin};
-ghost use Rattle.cs_file.specs.Indexes.{is_met};
-ghost use Rattle.cs_tables.specs.{TableListings.{post_table}, WordCounts.{AreCountable, HasCounted}};
-ghost use Rattle.cs_engine.specs.{Counting.{AreListed, AreMarked, in_listed}, Packing.{post_of_key, word_of_key}};
-ghost use Rattle.cs_engine.specs.{IndexReading.{IsOpened, IsWordRange, OnlyReads, WhereStood, stock_of}, Steps.{IsBaseOf}, Stocked.{is_between}};
+ghost use Rattle.cs_tables.specs.WordCounts.{AreCountable, HasCounted};
+ghost use Rattle.cs_engine.specs.{Counting.{AreListed, AreMarked}, Packing.{post_of_key, word_of_key}, Sources.{IsSource}, Steps.{IsBaseOf}};
 
 use crate::packing::{doc_of_key, word_of};
-use cs_base::{Base, Memory, Scored, Store};
-use cs_file::{Fetched, Index};
-use cs_tables::{Table, WordCounts};
+use crate::source::Source;
+use cs_base::{Base, Memory, Scored};
+use cs_tables::WordCounts;
 use std::alloc::Global;
 
 /// Which documents a base lists, by document.
-pub(crate) fn listed_docs(alloc: Global, docs: u32, base: &Base) -> Result<Vec<bool>, Memory>
-    requires base { IsBaseOf docs (MAX_ROW_SCORE * MAX_PARTS) base.now }
+pub(crate) fn listed_docs<I: Source>(
+    alloc: Global,
+    index: &I,
+    base: &Base,
+) -> Result<Vec<bool>, Memory>
+    requires source { IsSource (I.view index.now) }
+    requires base { IsBaseOf (I.view index.now).docs (MAX_ROW_SCORE * MAX_PARTS) base.now }
 
-    ensures { IfOk result (λ v. AreListed docs base.now v.items) }
+    ensures { IfOk result (λ v. AreListed (I.view index.now).present base.now v.items) }
 {
     match base {
         Base::All => {
-            let all = vec![in alloc; true; docs as usize]?;
+            let all = index.list_all(alloc)?;
             Ok(all)
         }
         Base::Listed(hits) => {
-            let mut listed = vec![in alloc; false; docs as usize]?;
+            let mut listed = vec![in alloc; false; index.docs() as usize]?;
             list_all(&mut listed, hits.as_slice());
             Ok(listed)
         }

@@ -1,12 +1,12 @@
 //! Entries: the hits from which a query's last part goes on, and the rows of that part in them.
-ghost use Rattle.std.specs.Prelude.{◌≡◌, ◌<◌, [], map, IfOk};
-ghost use Rattle.std.specs.List.{All};
+ghost use Rattle.std.specs.Prelude.{◌≡◌, [], map, IfOk};
 ghost use Rattle.cs_base.specs.declared.content.doc.Base.TheVariants as base;
 ghost use Rattle.cs_base.specs.content.Orders.{AreSorted};
 ghost use Rattle.cs_rank.specs.DocScores.{IsBase};
-ghost use Rattle.cs_engine.specs.{Steps.{posts_hits, posts_after, docs_after, with_no_score}, Stocked.{base_docs}};
+ghost use Rattle.cs_engine.specs.{Sources.{IsSource}, Steps.{posts_hits, posts_after, docs_after, with_no_score}, Stocked.{base_docs, present_docs}};
 
 use crate::hits::{all_docs, doc_numbers, hits_without, kept_in};
+use crate::source::Source;
 use cs_base::{Base, Memory, Scored, Seq};
 use cs_cache::KeptEntry;
 use cs_cols::Cols;
@@ -58,27 +58,27 @@ pub(crate) fn base_copy(alloc: Global, base: &Base) -> Result<Base, Memory>
 }
 
 /// The entry of a query and one part more, by the query's hits and the part's rows.
-pub(crate) fn posts_after(
+pub(crate) fn posts_after<I: Source>(
     alloc: Global,
-    docs: u32,
+    index: &I,
     hits: Base,
     excluded: bool,
     rows: Cols,
 ) -> Result<KeptEntry, Memory>
+    requires source { IsSource (I.view index.now) }
     requires base { IsBase hits }
     requires rows_sorted { AreSorted rows.posts }
-    requires known { All (λ p. p.doc < docs) rows.posts }
 
-    ensures { IfOk result (λ e. e ≡ posts_after docs hits excluded rows.posts) }
+    ensures { IfOk result (λ e. e ≡ posts_after (present_docs (I.view index.now).present) hits excluded rows.posts) }
 {
     if excluded {
-        let left = hits_without(alloc, docs, &hits, &rows)?;
+        let left = hits_without(alloc, index, &hits, &rows)?;
         return Ok(KeptEntry {
             base: Base::Listed(left),
             rows: Cols::new(alloc),
         });
     }
-    let kept = kept_in(alloc, docs, &hits, rows)?;
+    let kept = kept_in(alloc, &hits, rows)?;
     Ok(KeptEntry {
         base: hits,
         rows: kept,
@@ -86,12 +86,18 @@ pub(crate) fn posts_after(
 }
 
 /// The numbers of the documents that a base lists.
-pub(crate) fn docs_of_base(alloc: Global, docs: u32, base: &Base) -> Result<Vec<u32>, Memory>
-    ensures { IfOk result (λ v. v.items ≡ base_docs docs base.now) }
+pub(crate) fn docs_of_base<I: Source>(
+    alloc: Global,
+    index: &I,
+    base: &Base,
+) -> Result<Vec<u32>, Memory>
+    requires { IsSource (I.view index.now) }
+
+    ensures { IfOk result (λ v. v.items ≡ base_docs (present_docs (I.view index.now).present) base.now) }
 {
     match base {
         Base::All => {
-            let all = all_docs(alloc, docs)?;
+            let all = all_docs(alloc, index)?;
             let numbers = doc_numbers(alloc, &all)?;
             Ok(numbers)
         }
@@ -103,25 +109,26 @@ pub(crate) fn docs_of_base(alloc: Global, docs: u32, base: &Base) -> Result<Vec<
 }
 
 /// The hits that agree with one part more, whose rows these are, as a base. Their scores aren't counted.
-pub(crate) fn agreeing(
+pub(crate) fn agreeing<I: Source>(
     alloc: Global,
-    docs: u32,
+    index: &I,
     hits: &Base,
     excluded: bool,
     rows: Cols,
 ) -> Result<Base, Memory>
+    requires source { IsSource (I.view index.now) }
     requires base { IsBase hits.now }
     requires rows_sorted { AreSorted rows.posts }
-    requires known { All (λ p. p.doc < docs) rows.posts }
 
-    ensures docs { IfOk result (λ b. base_docs docs b ≡ docs_after docs hits.now excluded rows.posts) }
+    ensures docs { IfOk result (λ b. base_docs (present_docs (I.view index.now).present) b
+        ≡ docs_after (present_docs (I.view index.now).present) hits.now excluded rows.posts) }
     ensures base { IfOk result IsBase }
 {
     if excluded {
-        let left = hits_without(alloc, docs, hits, &rows)?;
+        let left = hits_without(alloc, index, hits, &rows)?;
         return Ok(Base::Listed(left));
     }
-    let kept = kept_in(alloc, docs, hits, rows)?;
+    let kept = kept_in(alloc, hits, rows)?;
     let numbers = docs_of(alloc, &kept)?;
     let listed = unscored(alloc, &numbers)?;
     Ok(Base::Listed(listed))

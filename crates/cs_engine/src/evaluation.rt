@@ -126,8 +126,8 @@ fn docs_of_hits<I: Source, S: Store>(
     let mut hits = Base::All;
     for part in query.parts.as_slice() {
         let rows = rows_of_part(alloc, index, store, part)?;
-        hits = agreeing(alloc, index.docs(), &hits, part.excluded, rows)?;
+        hits = agreeing(alloc, index, &hits, part.excluded, rows)?;
     }
-    let docs = docs_of_base(alloc, index.docs(), &hits)?;
+    let docs = docs_of_base(alloc, index, &hits)?;
     Ok(docs)
 }

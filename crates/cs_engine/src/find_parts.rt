@@ -75,7 +75,7 @@ fn find_words<I: Source, S: Store>(
 {
     let QueryOver { alloc, index, .. } = over;
     let weights = index.weights();
-    let listed = listed_docs(alloc, index.docs(), &hits)?;
+    let listed = listed_docs(alloc, index, &hits)?;
     let marks: &[bool] = &listed;
     let room = MAX_ENTRY_SIZE.saturating_sub(listed_count(&hits));
     let mut gathered = gather_keys(alloc, index, store, words, marks, room)?;
@@ -114,7 +114,7 @@ fn find_behind<I: Source, S: Store>(
     gathered: &GatheredKeys,
 ) -> Result<(Base, Table), FetchFault>
     requires asks { AreLastWords (seen (I.view over.index.now)) over.query.now hits.now words.0 words.1 }
-    requires listed { AreListed (I.view over.index.now).docs hits.now listed.now }
+    requires listed { AreListed (I.view over.index.now).present hits.now listed.now }
     requires gathered { HasGathered (I.view over.index.now) (S.bytes store.old) words.0 words.1 listed.now gathered.now }
     requires over { CanFind (S.bytes store.old) (I.view over.index.now) over.query.now }
 

@@ -117,7 +117,7 @@ fn read_words<I: Source, S: Store>(
     ensures store { OnlyReads S.bytes S.lent S.faults (I.view index.now).index store.old store.new result }
     ensures reads { ReadsWithin (met_in (I.view index.now) words.0 words.1) (S.reads store.old) (S.reads store.new) }
 {
-    let all = listed_docs(alloc, index.docs(), &Base::All)?;
+    let all = listed_docs(alloc, index, &Base::All)?;
     let none = nothing_gathered(alloc, index, words);
     let found = found_behind(alloc, index, store, &Base::All, words, &all, &none)?;
     Ok(found)

@@ -1,12 +1,12 @@
 //! The hits that a base lists, and rows within them.
-ghost use Rattle.std.specs.Prelude.{◌≡◌, ◌<◌, IfOk, drop, length, map, take};
-ghost use Rattle.std.specs.List.{All};
-ghost use Rattle.cs_meet.specs.Filters.{keep_docs, drop_docs};
+ghost use Rattle.std.specs.Prelude.{◌≡◌, IfOk, drop, length, map, take};
+ghost use Rattle.cs_meet.specs.Filters.{drop_docs};
 ghost use Rattle.cs_base.specs.content.{Members.{members_in}, Orders.{AreSorted, by_rank}};
 ghost use Rattle.cs_model_kept.specs.Entries.{listed_count};
 ghost use Rattle.cs_rank.specs.DocScores.{IsBase};
-ghost use Rattle.cs_engine.specs.Stocked.{base_hits, base_docs, every};
+ghost use Rattle.cs_engine.specs.{Sources.{IsSource}, Stocked.{base_hits, every, base_posts, present_docs}};
 
+use crate::source::Source;
 use cs_base::{Base, Memory, Scored, Seq};
 use cs_cols::Cols;
 use cs_meet::{drop_docs, keep_docs};
@@ -14,12 +14,11 @@ use cs_rank::top;
 use std::alloc::Global;
 
 /// The rows whose document a base lists.
-pub(crate) fn kept_in(alloc: Global, docs: u32, base: &Base, rows: Cols) -> Result<Cols, Memory>
+pub(crate) fn kept_in(alloc: Global, base: &Base, rows: Cols) -> Result<Cols, Memory>
     requires base { IsBase base.now }
     requires rows_sorted { AreSorted rows.posts }
-    requires known { All (λ p. p.doc < docs) rows.posts }
 
-    ensures ok { IfOk result (λ c. c.posts ≡ keep_docs rows.posts (base_docs docs base.now)) }
+    ensures ok { IfOk result (λ c. c.posts ≡ base_posts base.now rows.posts) }
     ensures sorted { IfOk result (λ c. AreSorted c.posts) }
 {
     match base {
@@ -43,20 +42,21 @@ pub(crate) fn doc_numbers(alloc: Global, hits: &[Scored]) -> Result<Vec<u32>, Me
 }
 
 // The hits of a base that have none of the rows.
-pub(crate) fn hits_without(
+pub(crate) fn hits_without<I: Source>(
     alloc: Global,
-    docs: u32,
+    index: &I,
     base: &Base,
     rows: &Cols,
 ) -> Result<Seq<Scored>, Memory>
+    requires source { IsSource (I.view index.now) }
     requires base { IsBase base.now }
     requires rows_sorted { AreSorted rows.now.posts }
 
-    ensures { IfOk result (λ left. left ≡ drop_docs (base_hits docs base.now) rows.now.posts) }
+    ensures { IfOk result (λ left. left ≡ drop_docs (base_hits (present_docs (I.view index.now).present) base.now) rows.now.posts) }
 {
     match base {
         Base::All => {
-            let all = all_docs(alloc, docs)?;
+            let all = all_docs(alloc, index)?;
             let left = drop_docs(alloc, &all, rows)?;
             Ok(left)
         }
@@ -78,19 +78,22 @@ pub(crate) fn listed_count(base: &Base) -> usize
 }
 
 /// The first hits of a base by score descending, then by document, without the first `offset`, cut to `cut`, and how many hits it has.
-pub(crate) fn first_hits(
+pub(crate) fn first_hits<I: Source>(
     alloc: Global,
-    docs: u32,
+    index: &I,
     base: &Base,
     offset: u32,
     cut: u32,
 ) -> Result<(Seq<Scored>, usize), Memory>
-    ensures first { IfOk result (λ r. r.0 ≡ take cut (drop offset (members_in by_rank (base_hits docs base.now)))) }
-    ensures total { IfOk result (λ r. r.1 ≡ length (base_hits docs base.now)) }
+    requires { IsSource (I.view index.now) }
+
+    ensures first { IfOk result (λ r. r.0
+        ≡ take cut (drop offset (members_in by_rank (base_hits (present_docs (I.view index.now).present) base.now)))) }
+    ensures total { IfOk result (λ r. r.1 ≡ length (base_hits (present_docs (I.view index.now).present) base.now)) }
 {
     match base {
         Base::All => {
-            let all = all_docs(alloc, docs)?;
+            let all = all_docs(alloc, index)?;
             let first = top(alloc, &all, offset, cut)?;
             Ok((first, all.len()))
         }
@@ -102,12 +105,17 @@ pub(crate) fn first_hits(
 }
 
 // Every document, with the score 0.
-pub(crate) fn all_docs(alloc: Global, docs: u32) -> Result<Vec<Scored>, Memory>
-    ensures { IfOk result (λ v. v.items ≡ every docs) }
+pub(crate) fn all_docs<I: Source>(alloc: Global, index: &I) -> Result<Vec<Scored>, Memory>
+    requires { IsSource (I.view index.now) }
+
+    ensures { IfOk result (λ v. v.items ≡ every (present_docs (I.view index.now).present)) }
 {
+    let docs = index.docs();
     let mut all = Vec::with_capacity(alloc, docs as usize)?;
     for doc in 0..docs {
-        all.push_reserved(Scored { doc, score: 0 });
+        if index.has_doc(doc) {
+            all.push_reserved(Scored { doc, score: 0 });
+        }
     }
     Ok(all)
 }

@@ -26,6 +26,10 @@ impl Source for Index {
         Ok(all)
     }
 
+    fn has_doc(&self, doc: u32) -> bool {
+        doc < self.docs
+    }
+
     fn held(&self) -> &[Post] {
         &[]
     }

@@ -24,39 +24,12 @@ pub(crate) fn united(alloc: Global, mut lists: Vec<Cols>) -> Result<Cols, Memory
     ensures { IfOk result (λ c. IsOrdered (flat_map (λ l. l.posts) lists.items) c.posts) }
 {
     if lists.len() > 1 {
-        let all = united_halves(alloc, &lists)?;
+        let all = unite(alloc, &lists)?;
         return Ok(all);
     }
     match lists.pop() {
         Some(only) => Ok(only),
         None => Ok(Cols::new(alloc)),
-    }
-}
-
-// The rows of some lists, each place once: those of each half are united first, so that each row is moved once for each doubling of the
-// number of lists.
-fn united_halves(alloc: Global, lists: &[Cols]) -> Result<Cols, Memory>
-    requires { All (λ c. AreSorted c.posts) lists.now }
-
-    ensures { IfOk result (λ c. IsOrdered (flat_map (λ l. l.posts) lists.now) c.posts) }
-{
-    match lists {
-        [] => Ok(Cols::new(alloc)),
-        [only] => {
-            let copied = only.copy(alloc)?;
-            Ok(copied)
-        }
-        [first, second] => {
-            let both = unite(alloc, first, second)?;
-            Ok(both)
-        }
-        _ => {
-            let (front, back) = lists.split_at(lists.len() / 2);
-            let left = united_halves(alloc, front)?;
-            let right = united_halves(alloc, back)?;
-            let both = unite(alloc, &left, &right)?;
-            Ok(both)
-        }
     }
 }
 

@@ -5,7 +5,7 @@ ghost use Rattle.cs_base.specs.{declared.content.limits.TheConstants.{MAX_PARTS}
 ghost use Rattle.cs_base.specs.outside.Causes.{ReadsWithin};
 ghost use Rattle.cs_rank.specs.DocScores.{doc_scores};
 ghost use Rattle.cs_engine.specs.{Counting.{in_listed}, Loose.{HasBestScores}, IndexReading.{IsWordRange, OnlyReads, WhereStood}};
-ghost use Rattle.cs_engine.specs.{Sources.{CanRead, met_in, seen}, Steps.{IsBaseOf, posts_after}, Stocked.{is_between}};
+ghost use Rattle.cs_engine.specs.{Sources.{CanRead, met_in, seen}, Steps.{IsBaseOf}, Stocked.{is_between, base_posts}};
 
 use crate::best::{blank_table, raise_held, raise_rows, scored_in};
 use crate::counting::listed_docs;
@@ -28,13 +28,13 @@ pub(crate) fn hits_by_words<I: Source, S: Store>(
 
     ensures told { WhereStood (S.bytes store.old) (I.view index.now).index
         (λ b. IfOk result (λ next. next ≡ doc_scores hits.now
-        (posts_after (I.view index.now).docs hits.now false (filter (is_between words.0 words.1) ((I.view index.now).stock b).posts)).rows)) }
+        (base_posts hits.now (filter (is_between words.0 words.1) ((I.view index.now).stock b).posts)))) }
     ensures within { IfOk result (λ next. (n : ℕ) → IsBaseOf (I.view index.now).docs (MAX_ROW_SCORE * n) hits.now
         → IsBaseOf (I.view index.now).docs (MAX_ROW_SCORE * (n + 1)) (base.Listed next)) }
     ensures store { OnlyReads S.bytes S.lent S.faults (I.view index.now).index store.old store.new result }
     ensures reads { ReadsWithin (met_in (I.view index.now) words.0 words.1) (S.reads store.old) (S.reads store.new) }
 {
-    let listed = listed_docs(alloc, index.docs(), hits)?;
+    let listed = listed_docs(alloc, index, hits)?;
     let best = best_in_blocks(alloc, index, store, words, &listed)?;
     let scored = scored_in(alloc, hits, &best)?;
     Ok(scored)

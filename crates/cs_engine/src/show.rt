@@ -75,7 +75,7 @@ pub(crate) fn show<I: Source, S: Store>(
     } = over;
     let shown = shown_words(alloc, index, table.first.as_slice())?;
     let facets = shown_facets(over, store, held, hits)?;
-    let (first, total) = first_hits(alloc, index.docs(), hits, request.offset, request.hits)?;
+    let (first, total) = first_hits(alloc, index, hits, request.offset, request.hits)?;
     let shown_first = shown_hits(alloc, index, store, first.as_slice())?;
     Ok(Reply {
         completions: shown,
@@ -116,7 +116,7 @@ fn shown_facets<I: Source, S: Store>(
     if request.facets.as_slice().is_empty() {
         return Ok(shown);
     }
-    let listed = listed_docs(alloc, index.docs(), base)?;
+    let listed = listed_docs(alloc, index, base)?;
     for name in request.facets.as_slice() {
         let facet = shown_facet(over, store, held, base, &listed, name)?;
         shown.push(facet)?;
@@ -134,7 +134,7 @@ fn shown_facet<I: Source, S: Store>(
     name: &Text,
 ) -> Result<FacetShown, FetchFault>
     requires base { IsBaseOf (I.view over.index.now).docs (MAX_ROW_SCORE * MAX_PARTS) base.now }
-    requires listed { AreListed (I.view over.index.now).docs base.now listed.now }
+    requires listed { AreListed (I.view over.index.now).present base.now listed.now }
     requires held { All (FitsRange (seen (I.view over.index.now))) held.old }
     requires opened { CanRead (S.bytes store.old) (I.view over.index.now) }
 

@@ -33,6 +33,12 @@ pub trait Source {
     fn list_all(&self, alloc: Global) -> Result<Vec<bool>, Memory>
         ensures { IfOk result (λ v. v.items ≡ (view self.now).present) };
 
+    /// Whether a number is that of a document.
+    fn has_doc(&self, doc: u32) -> bool
+        requires { doc < (view self.now).docs }
+
+        ensures { result ≡ slice_index_or (view self.now).present doc false };
+
     /// The rows in memory.
     fn held(&self) -> &[Post]
         ensures { result.now ≡ (view self.now).held };

@@ -66,7 +66,7 @@ pub(crate) fn extended_entry<I: Source, S: Store>(
     ensures reads { ReadsWithin (met_of_part (division (I.view index.now).index) part.now) (S.reads store.old) (S.reads store.new) }
 {
     let rows = rows_of_part(alloc, index, store, part)?;
-    let entry = posts_after(alloc, index.docs(), hits, part.excluded, rows)?;
+    let entry = posts_after(alloc, index, hits, part.excluded, rows)?;
     Ok(entry)
 }
 

@@ -3,16 +3,17 @@
 --   requests_both, requests_length      the requests of answers
 --   some_said, some_starved, some_delivered, some_refused      what was sent, whatever it was
 --   before_none, want_before      nothing was asked: there was no head, or no memory
---   want_for, sent_for            what was sent for one head
---   sent_less                     where less is claimed of what was sent
+--   SentFor c goes h xs           what was sent for one head: its response, or less of it, or the memory response
+--   want_for, sent_for            by what was delivered
 --   before_stop                   a head behind which the connection is to be closed
 --   asked_both, enough_both, memory_both      heads behind heads
 --   in_turn_both                  requests behind requests
---   asks_none, asks_nothing, asks_one, asks_whole, asks_less, asks_no_bytes      none, none of none, one; where less is claimed; none of no bytes
+--   asks_none, asks_nothing, asks_one, asks_whole, asks_no_bytes      none, none of none, one; where less is claimed; none of no bytes
 --   is_piece, unasked             an event that is no piece asks nothing
---   asks_params, refused_params, asks_head, refused_head      what parameters and a head ask
---   asks_below, asks_all, asks_sent, starved_for      how many answers there are; what was asked for one head, by what was sent
+--   asks_params, by_refusal, for_memory, asks_head, refused_head      what parameters and a head ask
+--   asks_below, asks_all, asks_sent      how many answers there are; what was asked for one head, by what was sent
 --   turned_goes, turned_stops, turned_head     a head was answered
+--   starved_stops                 memory ran out
 --   turned_held, turned_long      no head ends there
 --   cut_here                      heads with no bytes behind
 --   along_start, along_next, along_hold, along_rest, along_stop    the way through the bytes
@@ -44,7 +45,6 @@ use Rattle.cs_file.specs.declared.fault.FetchFault.TheVariants as refusals
 use Rattle.cs_engine.specs.declared.note.Note.{Note}
 use Rattle.cs_file.specs.Indexes.{CausedReads}
 use Rattle.cs_http.specs.Judging.{IsHeadCause}
-use Rattle.cs_http.specs.Refusing.{IsCause}
 use Rattle.cs_http.specs.declared.heads.HeadFault.{HeadFault}
 use Rattle.cs_http.specs.declared.heads.HeadFault.TheVariants as heads
 use Rattle.cs_model.specs.Corpus.{Corpus}
@@ -56,9 +56,7 @@ use Rattle.cs_model_serving.specs.Connections.{Left}
 use Rattle.cs_model_serving.specs.Framing.{frame}
 use Rattle.cs_model_serving.specs.Heads.{Judgement, asks, judge}
 use Rattle.cs_model_serving.specs.Responses.{Response, all_bytes, memory_bytes, response_bytes, too_long}
-use Rattle.cs_query.specs.declared.request.ReqFault.{ReqFault}
-use Rattle.cs_query.specs.declared.request.ReqFault.TheVariants as faults
-use Rattle.cs_hub.specs.Asked.{InTurn, AsksOf, AsksAsSent, AsksAlong, AsksBy, SentFor, Standing, EngineLeaves}
+use Rattle.cs_hub.specs.Asked.{InTurn, AsksOf, AsksAsSent, AsksAlong, AsksBy, Standing, EngineLeaves}
 use Rattle.cs_hub.specs.DueReads.{Answered, AnswersWithin, AreDue, HasMemory, SentAt, SentBefore, bytes_behind, bytes_to_answer, closes_behind, goes_on}
 use Rattle.cs_hub.specs.DueReads.{AreResponsesBy, IsPartOf, IsResponseBy, IsRest, IsTextBy, IsWholeBy, SentBy, heads_on, read_failures, is_want, reply_in, requests_by, requests_in, requests_of, requests_on, requests_to}
 use Rattle.cs_hub.specs.HubFollowing.{Lefts, left_at}
@@ -149,6 +147,17 @@ want_before c b false talk talk' h = record {
 }
 
 -- ---- one head
+-- the response was sent whole, behind what the head asks, and the connection is closed behind it unless it goes on; or the send
+-- failed, or the memory response was sent. What was sent is by the answers, and where the connection goes on it is whole
+pub record SentFor (c : ℕ) (goes : Bool) (h : List ℕ) (talk talk' : Option Talk) (answered : List Answered) : Type 0 where
+  pub part : List ℕ
+  pub fails : Bool
+  pub spoke : Spoke c part fails talk talk'
+  pub all : (HasMemory answered × (length answered ≡ length (requests_in (judge h))) × (closes_behind (judge h) ≡ not goes)) ⊎ (fails ≡ true)
+      ⊎ (part ≡ memory_bytes)
+  pub by : IsTextBy (h ∷ []) answered part
+  pub whole : goes ≡ true → (r : Response) × IsResponseBy h answered r × Spoke c (response_bytes r) false talk talk'
+
 -- the response was sent whole
 abbrev Whole : ℕ → List ℕ → List Answered → Option Talk → Option Talk → Type 0
 Whole c h xs talk talk' = (r : Response) × IsResponseBy h xs r × Spoke c (response_bytes r) false talk talk'
@@ -227,20 +236,6 @@ before_stop c goes h b later talk talk' xs off few is alone s = record {
   whole = by_nothing (IsWholeBy [] (heads_on b) xs s.part s.fails);
 }
 
--- of a connection that doesn't go on less is said
-pub sent_less : (c : ℕ) (goes less : Bool) (b : List ℕ) (talk talk' : Option Talk) (xs : List Answered) → (less ≡ true → goes ≡ true)
-    → SentBefore c goes b talk talk' xs → SentBefore c less b talk talk' xs
-sent_less c goes less b talk talk' xs h s = record {
-  sent = s.sent;
-  part = s.part;
-  fails = s.fails;
-  spoke = s.spoke;
-  by = s.by;
-  enough = s.enough;
-  all = s.all;
-  whole = λ e. s.whole (h e);
-}
-
 -- ---- heads behind heads
 pub asked_both : (hs ks : List (List ℕ)) → requests_to (hs ++ ks) ≡ requests_to hs ++ requests_to ks
 asked_both hs ks = flat_map-append (λ h. requests_in (judge h)) hs ks
@@ -310,10 +305,6 @@ module _ {K : Type 0} (Leaves : K → Request → Result Reply FetchFault → K 
       → AsksOf Leaves less qs s t
   asks_whole whole less qs s t h a = record { answered = a.answered; later = a.later; cut = a.cut; in_turn = a.in_turn; all = λ e. a.all (h e) }
 
-  pub asks_less : (whole less : Bool) (qs : List Request) (s t : K) (Sent : List Answered → Type 0) → (less ≡ true → whole ≡ true)
-      → AsksAsSent Leaves whole qs s t Sent → AsksAsSent Leaves less qs s t Sent
-  asks_less whole less qs s t Sent h a = record { asks = asks_whole whole less qs s t h a.asks; sent = a.sent }
-
   abbrev asks_some : (qs more all : List Request) (s t : K) → all ≡ qs ++ more → (whole : Bool) → AsksOf Leaves whole qs s t → AsksOf Leaves false all s t
   asks_some qs more all s t e whole a = record {
     answered = a.answered;
@@ -351,13 +342,13 @@ module _ {K : Type 0} (Leaves : K → Request → Result Reply FetchFault → K 
   asks_params whole p q s t Sent none is h =
       subst (λ r. AsksAsSent Leaves whole (requests_by p r) s t Sent) (sym none) (subst (λ x. AsksAsSent Leaves whole (x ∷ []) s t Sent) is h)
 
-  by_refusal : (whole : Bool) (p : List ℕ) (r : RequestRefusal) (s : K) (Sent : List Answered → Type 0) → request_refusal p ≡ Some r → Sent []
+  pub by_refusal : (whole : Bool) (p : List ℕ) (r : RequestRefusal) (s : K) (Sent : List Answered → Type 0) → request_refusal p ≡ Some r → Sent []
       → AsksAsSent Leaves whole (requests_by p (request_refusal p)) s s Sent
   by_refusal whole p r s Sent e h =
       subst (λ o. AsksAsSent Leaves whole (requests_by p o) s s Sent) (sym e) (record { asks = asks_nothing whole s; sent = h })
 
   -- where memory ran out there is no response
-  for_memory : (result : Result Answer Memory) (qs : List Request) (s : K) (Sent : List Answered → Type 0) → IfOk result (λ a. ⊥) → Sent []
+  pub for_memory : (result : Result Answer Memory) (qs : List Request) (s : K) (Sent : List Answered → Type 0) → IfOk result (λ a. ⊥) → Sent []
       → AsksAsSent Leaves (is_ok result) qs s s Sent
   for_memory (Ok a) qs s Sent h k = absurd h
   for_memory (Err e) qs s Sent h k = record { asks = asks_none qs s; sent = k }
@@ -365,14 +356,6 @@ module _ {K : Type 0} (Leaves : K → Request → Result Reply FetchFault → K 
   never : (P : Type 0) (result : Result Answer Memory) → (P → ⊥) → IfOk result (λ a. P) → IfOk result (λ a. ⊥)
   never P (Ok a) f h = f h
   never P (Err e) f h = tt
-
-  pub refused_params : (p : List ℕ) (fault : ReqFault) (result : Result Answer Memory) (s : K) (Sent : List Answered → Type 0) → IsCause p fault
-      → IfOk result (λ a. fault ≡ faults.Memory → ⊥) → Sent [] → AsksAsSent Leaves (is_ok result) (requests_by p (request_refusal p)) s s Sent
-  refused_params p (faults.BadParam which) result s Sent cause h k = by_refusal (is_ok result) p _ s Sent cause k
-  refused_params p (faults.Bad at) result s Sent cause h k = by_refusal (is_ok result) p _ s Sent cause k
-  refused_params p (faults.Limit at which) result s Sent cause h k = by_refusal (is_ok result) p _ s Sent cause k
-  refused_params p faults.Memory result s Sent cause h k =
-      for_memory result (requests_by p (request_refusal p)) s Sent (never (faults.Memory ≡ faults.Memory → ⊥) result (λ f. f refl) h) k
 
   pub asks_head : (whole : Bool) (bytes p : List ℕ) (close : Bool) (s t : K) (Sent : List Answered → Type 0) → judge bytes ≡ asks p close
       → AsksAsSent Leaves whole (requests_by p (request_refusal p)) s t Sent → AsksAsSent Leaves whole (requests_in (judge bytes)) s t Sent
@@ -405,11 +388,6 @@ module _ {K : Type 0} (Leaves : K → Request → Result Reply FetchFault → K 
     asks = asks_whole false goes (requests_in (judge h)) s t (λ on. sym sent.0 ∙ on) a.asks;
     sent = subst (λ g. SentFor c g h talk talk' a.asks.answered) (sym sent.0) (want_for c h sent.1.0 talk talk' a.asks.answered sent.1.1);
   }
-
-  -- no memory was there for its bytes
-  pub starved_for : (c : ℕ) (h : List ℕ) (s : K) (talk talk' : Option Talk) → Starved c talk talk'
-      → AsksAsSent Leaves false (requests_in (judge h)) s s (SentFor c false h talk talk')
-  starved_for c h s talk talk' starved = record { asks = asks_none (requests_in (judge h)) s; sent = want_for c h starved.0 talk talk' [] starved.1 }
 
   -- ---- turns
   module _ (c : ℕ) (u r : List ℕ) (skip end used : ℕ) (goes : Bool) (s t : K) (talk talk' : Option Talk) (span : Span u r skip end used)
@@ -463,7 +441,7 @@ module _ {K : Type 0} (Leaves : K → Request → Result Reply FetchFault → K 
   turned_head c u r skip end used false turn s t talk talk' is span going a =
       subst (λ x. AsksBy Leaves c u r x s t talk talk') (sym is) (turned_stops c u r skip end used false s t talk talk' span a refl)
 
-  starved_stops : (c : ℕ) (b : List ℕ) (s : K) (talk talk' : Option Talk) → Starved c talk talk'
+  pub starved_stops : (c : ℕ) (b : List ℕ) (s : K) (talk talk' : Option Talk) → Starved c talk talk'
       → AsksAsSent Leaves false (requests_on b) s s (SentBefore c false b talk talk')
   starved_stops c b s talk talk' h = record { asks = asks_none (requests_on b) s; sent = want_before c b h.0 talk talk' h.1 }
 

@@ -5,6 +5,7 @@ pub mod ConnectionSlots
 pub mod EventLemmas
 pub mod FollowLemmas
 pub mod HeadsExamples
+pub mod OutcomeLemmas
 pub mod PieceTurns
 pub mod RespondingLemmas
 pub mod RightLemmas

@@ -4,10 +4,10 @@
 --   calm_none, calm_both                               what the hub keeps
 --   stays_none, stays_both                             what is kept of what answers requests
 --   leaves_none, leaves_both                           what is kept of an engine and its store
---   received, goes_kept                                a piece, by what is kept of the connection
+--   received, stopped                                  a piece, by whether the connection goes on
 use Rattle.std.proofs.Common.{◌≡◌, inl, inr, ℕ, ◌+◌, ◌-◌, Bool, true, false, List, [], ◌∷◌, ◌++◌, length, take, drop, refl, sym, ◌∙◌, ap, subst}
 use Rattle.std.proofs.Common.{append_assoc, append-nil, arith}
-use Rattle.std.specs.Prelude.{Option, Some, None, All, is_some}
+use Rattle.std.specs.Prelude.{Option, Some, None, All}
 use Rattle.std.proofs.lemmas.List.{length-take}
 use Rattle.cs_base.specs.declared.content.limits.TheConstants.{MAX_CONNECTION_BYTES}
 use Rattle.std.specs.List.{AllZip}
@@ -22,7 +22,7 @@ use Rattle.cs_engine.specs.Keeping.{EngineView}
 use Rattle.cs_hub.specs.Asked.{LeavesIndex, StaysAnswering}
 use Rattle.cs_hub.specs.DueReads.{IsRest}
 use Rattle.cs_hub.specs.Speaking.{Calm, IsEnded}
-use Rattle.cs_hub.specs.Turns.{IsOne, IsAlong, Along, GoesOn, KeepsBelow, KeepsUnread, HoldsOn, Holds, Reads, Stops, Received}
+use Rattle.cs_hub.specs.Turns.{IsOne, IsAlong, Along, GoesOn, KeepsBelow, KeepsUnread, HoldsOn, Holds, Stops, Received}
 use Rattle.cs_hub.proofs.SpeakLemmas.{breaks_both, breaks_none, rose_none, spoke_nothing, says_both}
 use Rattle.cs_hub.proofs.ServedLemmas.{all_nil, zip_both, bytes_both, ended_behind}
 
@@ -142,35 +142,36 @@ leaves_both h k = record {
 }
 
 -- ---- the limit
--- by what is kept of the connection
-received_from : (Over : Corpus → Type 0) (c taken : ℕ) (unread piece counted unread' : List ℕ) (goes : Bool) (kept : Option Left) (m n : ℕ)
-    (talk talk' : Option Talk) → counted ≡ take (MAX_CONNECTION_BYTES - taken) piece → KeepsBelow goes (taken + length counted) unread' kept
-    → Reads Over c (unread ++ counted) goes unread' m n talk talk' → Received Over c (record { taken = taken; unread = unread }) piece kept m n talk talk'
-received_from Over c taken unread piece counted unread' true (Some l) m n talk talk' e k h = (
-  subst (λ u. Holds Over c (unread ++ take (MAX_CONNECTION_BYTES - taken) piece) u m n talk talk') (sym (ap (λ (x : Left). x.unread) k.2))
-      (subst (λ x. Holds Over c (unread ++ x) unread' m n talk talk') e h.0),
-  let size = length-take (MAX_CONNECTION_BYTES - taken) piece in omega (arith, k.1, ap length e, ap (λ (x : Left). x.taken) k.2, size),
-  omega (arith, k.1, ap (λ (x : Left). x.taken) k.2),
-  subst (λ u. IsRest (unread ++ take (MAX_CONNECTION_BYTES - taken) piece) u) (sym (ap (λ (x : Left). x.unread) k.2))
-      (subst (λ x. IsRest (unread ++ x) unread') e h.1),
+-- it goes on, and by how many bytes were taken it is kept
+received_from : (Over : Corpus → Type 0) (c taken : ℕ) (unread piece counted unread' : List ℕ) (kept : Option Left) (m n : ℕ) (talk talk' : Option Talk)
+    → counted ≡ take (MAX_CONNECTION_BYTES - taken) piece → KeepsBelow (taken + length counted) unread' kept
+    → Holds Over c (unread ++ counted) unread' m n talk talk' → IsRest (unread ++ counted) unread'
+    → Received Over c (record { taken = taken; unread = unread }) piece kept m n talk talk'
+received_from Over c taken unread piece counted unread' (Some l) m n talk talk' e k h rest = (
+  subst (λ u. Holds Over c (unread ++ take (MAX_CONNECTION_BYTES - taken) piece) u m n talk talk') (sym (ap (λ (x : Left). x.unread) k.1))
+      (subst (λ x. Holds Over c (unread ++ x) unread' m n talk talk') e h),
+  let size = length-take (MAX_CONNECTION_BYTES - taken) piece in omega (arith, k.0, ap length e, ap (λ (x : Left). x.taken) k.1, size),
+  omega (arith, k.0, ap (λ (x : Left). x.taken) k.1),
+  subst (λ u. IsRest (unread ++ take (MAX_CONNECTION_BYTES - taken) piece) u) (sym (ap (λ (x : Left). x.unread) k.1))
+      (subst (λ x. IsRest (unread ++ x) unread') e rest),
 )
-received_from Over c taken unread piece counted unread' true None m n talk talk' e k h = inr (
+received_from Over c taken unread piece counted unread' None m n talk talk' e k h rest = inr (
   unread',
-  subst (λ x. Holds Over c (unread ++ x) unread' m n talk talk') e h.0,
-  let size = length-take (MAX_CONNECTION_BYTES - taken) piece in let full = k refl in omega (arith, full, ap length e, size),
+  subst (λ x. Holds Over c (unread ++ x) unread' m n talk talk') e h,
+  let size = length-take (MAX_CONNECTION_BYTES - taken) piece in omega (arith, k, ap length e, size),
 )
-received_from Over c taken unread piece counted unread' false (Some l) m n talk talk' e k h = absurd (let x : false ≡ true = k.0 in cc)
-received_from Over c taken unread piece counted unread' false None m n talk talk' e k h = inl (subst (λ x. Stops Over c (unread ++ x) m n talk talk') e h)
 
-pub received : (Over : Corpus → Type 0) (c : ℕ) (old : Left) (taken : ℕ) (unread piece counted unread' : List ℕ) (goes : Bool) (kept : Option Left) (m n : ℕ)
+pub received : (Over : Corpus → Type 0) (c : ℕ) (old : Left) (taken : ℕ) (unread piece counted unread' : List ℕ) (kept : Option Left) (m n : ℕ)
     (talk talk' : Option Talk) → record { taken = taken; unread = unread } ≡ old → counted ≡ take (MAX_CONNECTION_BYTES - taken) piece
-    → KeepsBelow goes (taken + length counted) unread' kept → Reads Over c (unread ++ counted) goes unread' m n talk talk'
+    → KeepsBelow (taken + length counted) unread' kept → Holds Over c (unread ++ counted) unread' m n talk talk' → IsRest (unread ++ counted) unread'
     → Received Over c old piece kept m n talk talk'
-received Over c old taken unread piece counted unread' goes kept m n talk talk' is e k h =
+received Over c old taken unread piece counted unread' kept m n talk talk' is e k h rest =
     subst (λ (l : Left). Received Over c l piece kept m n talk talk') is
-    (received_from Over c taken unread piece counted unread' goes kept m n talk talk' e k h)
+    (received_from Over c taken unread piece counted unread' kept m n talk talk' e k h rest)
 
--- a connection that is kept goes on
-pub goes_kept : (goes : Bool) (taken : ℕ) (unread : List ℕ) (kept : Option Left) → KeepsBelow goes taken unread kept → is_some kept ≡ true → goes ≡ true
-goes_kept goes taken unread (Some l) k h = k.0
-goes_kept goes taken unread None k h = absurd cc
+-- it is to be closed
+pub stopped : (Over : Corpus → Type 0) (c : ℕ) (old : Left) (taken : ℕ) (unread piece counted : List ℕ) (m n : ℕ) (talk talk' : Option Talk)
+    → record { taken = taken; unread = unread } ≡ old → counted ≡ take (MAX_CONNECTION_BYTES - taken) piece
+    → Stops Over c (unread ++ counted) m n talk talk' → Received Over c old piece None m n talk talk'
+stopped Over c old taken unread piece counted m n talk talk' is e h =
+    subst (λ (l : Left). Received Over c l piece None m n talk talk') is (inl (subst (λ x. Stops Over c (unread ++ x) m n talk talk') e h))

@@ -1,7 +1,8 @@
 -- The response to a head, from its parts.
 --
+--   none_of                          a count of one response that isn't counted
 --   itself_given                     the response itself, which is no 500
---   given_refused, given_asked       that to parameters: a refusal, or what a request gives
+--   params_counts                    that to parameters is none
 --   given_searched, given_judged     that to a head: what its parameters give, or a refusal
 --   by_head                          that to a head by the answers to what its parameters ask
 use Rattle.std.proofs.Common.{◌≡◌, inl, ℕ, ◌+◌, ◌≤◌, ◌==◌, Bool, false, not, ◌&&◌, cond, List, [], ◌∷◌, Option, Some, None, codes, refl, sym, ◌∙◌, ap, subst}
@@ -9,19 +10,15 @@ use Rattle.std.proofs.Common.{arith}
 use Rattle.std.specs.Str.{bytes_eq}
 use Rattle.cs_http.specs.declared.heads.HeadFault.{HeadFault}
 use Rattle.cs_http.specs.Judging.{IsHeadCause}
-use Rattle.cs_http.specs.Refusing.{IsCause}
 use Rattle.cs_model.specs.Corpus.{Corpus}
 use Rattle.cs_model.specs.Faults.{error_text}
-use Rattle.cs_model.specs.Outputs.{text_by}
-use Rattle.cs_model.specs.Parameters.{RequestRefusal, request_of, request_refusal}
-use Rattle.cs_model.specs.Requests.{Request}
+use Rattle.cs_model.specs.Parameters.{RequestRefusal, request_refusal}
 use Rattle.cs_model_serving.specs.Heads.{Judgement, asks, judge}
 use Rattle.cs_model_serving.specs.Responses.{Response, status_by, response_to, to_judgement, to_params}
 use Rattle.cs_model_serving.specs.Connections.{says_read, says_changed, reads, changes}
 use Rattle.cs_model_serving.proofs.CountLemmas.{answer_counts}
-use Rattle.cs_query.specs.declared.request.ReqFault.{ReqFault}
 use Rattle.cs_hub.specs.DueReads.{Answered, IsBy, IsResponseBy, closes_behind}
-use Rattle.cs_hub.specs.Responding.{IsJudgedSo, IsRefusedSo, reply_response}
+use Rattle.cs_hub.specs.Responding.{IsJudgedSo}
 use Rattle.cs_hub.specs.Streams.{RoseBy}
 use Rattle.cs_hub.specs.Turns.{IsFor, IsGiven}
 use Rattle.cs_hub.proofs.ByLemmas.{by_same}
@@ -33,7 +30,7 @@ unfolding response_to
 is_response k bytes j e = ap (to_judgement k) e
 
 -- the response itself, where it says neither
-none_of : (n : ℕ) (b : Bool) → n ≡ cond b 1 0 + 0 → b ≡ false → n ≡ 0
+pub none_of : (n : ℕ) (b : Bool) → n ≡ cond b 1 0 + 0 → b ≡ false → n ≡ 0
 none_of n b h e = h ∙ ap (λ x. cond x 1 0 + 0) e
 
 pub itself_given : (right r : Response) (m n : ℕ) → r ≡ right → says_read r ≡ false → says_changed r ≡ false → m ≤ n → IsFor right r m n
@@ -49,28 +46,11 @@ not_fault : (k : Corpus) (p : List ℕ) (r : Option RequestRefusal) → (status_
 not_fault k p None = refl
 not_fault k p (Some r) = refl
 
-params_counts : (k : Corpus) (p : List ℕ) (close : Bool) → (says_read (to_params k p close) ≡ false) × (says_changed (to_params k p close) ≡ false)
+pub params_counts : (k : Corpus) (p : List ℕ) (close : Bool) → (says_read (to_params k p close) ≡ false) × (says_changed (to_params k p close) ≡ false)
 params_counts k p close =
     let h = not_fault k p (request_refusal p) in
     let r = to_params k p close in
     (ap (λ t. t && bytes_eq r.body (error_text (codes "read"))) h, ap (λ t. t && not (says_read r)) h)
-
-pub given_refused : (Over : Corpus → Type 0) (p : List ℕ) (fault : ReqFault) (close : Bool) (r : Response) (m : ℕ) → IsCause p fault → IsRefusedSo fault close r
-    → IsGiven Over (λ k. to_params k p close) r m m
-given_refused Over p fault close r m cause h = λ k over.
-    let e : r ≡ to_params k p close = h k p cause in
-    let counts = params_counts k p close in
-    itself_given (to_params k p close) r m m e (ap says_read e ∙ counts.0) (ap says_changed e ∙ counts.1) (omega arith)
-
--- where the parameters aren't refused, the response is that to their request
-pub given_params : (k : Corpus) (p : List ℕ) (q : Request) (close : Bool) → request_refusal p ≡ None → q ≡ request_of p
-    → reply_response k q close ≡ to_params k p close
-given_params k p q close none e =
-    ap (λ q. reply_response k q close) e ∙ sym (ap (λ r. let y : Response = record { status = status_by r; closes = close; body = text_by k p r } in y) none)
-
-pub given_asked : (Over : Corpus → Type 0) (p : List ℕ) (q : Request) (close : Bool) (r : Response) (m n : ℕ) → request_refusal p ≡ None → q ≡ request_of p
-    → IsGiven Over (λ k. reply_response k q close) r m n → IsGiven Over (λ k. to_params k p close) r m n
-given_asked Over p q close r m n none e h = λ k over. subst (λ x. IsFor x r m n) (given_params k p q close none e) (h k over)
 
 -- ---- heads
 pub given_searched : (Over : Corpus → Type 0) (bytes p : List ℕ) (close : Bool) (r : Response) (m n : ℕ) → judge bytes ≡ asks p close

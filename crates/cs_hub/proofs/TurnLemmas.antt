@@ -4,7 +4,8 @@
 --   one_goes          a response was sent, and the connection goes on
 --   one_stops         a response was sent, or not whole, and the connection is to be closed
 --   delivered_by      a response was sent, whole or not
---   replied_goes, replied_stops      the same of the response to a head
+--   Replied                  the response to a head was sent, or memory ran out
+--   replied_goes, replied_stops      what a turn did by it
 --   found_head, found_more, found_long    what looking found, as framing
 --   head_bytes        the bytes of a head, some of which were unread
 --   Span              where a head lies among unread bytes and those that came
@@ -33,7 +34,7 @@ use Rattle.cs_hub.specs.declared.answer.Answer.{Answer}
 use Rattle.cs_hub.specs.Responding.{response}
 use Rattle.cs_hub.specs.Streams.{RoseBy}
 use Rattle.cs_hub.specs.Speaking.{SaidOn, Spoke, Starved, IsCutShort, IsEnded, Says}
-use Rattle.cs_hub.specs.Turns.{IsGiven, Delivered, IsSent, Replied, IsOne, HoldsBytes, IsTurnedAway, Stops, Turned}
+use Rattle.cs_hub.specs.Turns.{IsGiven, Delivered, IsSent, IsOne, HoldsBytes, IsTurnedAway, Stops, Turned}
 use Rattle.cs_hub.proofs.SpeakLemmas.{rose_none}
 use Rattle.cs_hub.proofs.ServedLemmas.{all_nil, zip_same, same_closing, plain, reads_cons, changes_cons}
 
@@ -174,6 +175,12 @@ delivered_by c r text true talk talk' is h = closes_so c r r.closes talk talk' r
 delivered_by c r text false talk talk' is h = inr (inl (h.0, subst (λ t. Spoke c (take h.0 t) true talk talk') is h.1))
 
 -- ---- the response to a head
+-- the response was the one given for a head; or memory ran out before there was one
+abbrev pub Replied : (Corpus → Type 0) → ℕ → (Corpus → Response) → Bool → ℕ → ℕ → Option Talk → Option Talk → Type 0
+Replied Over c right goes before now talk talk' =
+    ((r : Response) × IsGiven Over right r before now × Delivered c r goes talk talk')
+    ⊎ ((goes ≡ false) × Starved c talk talk')
+
 pub replied_goes : (Over : Corpus → Type 0) (c : ℕ) (b rest : List ℕ) (right : Corpus → Response) (goes : Bool) (m n : ℕ) (talk talk' : Option Talk)
     → ((k : Corpus) → serve k b ≡ answered (right k) rest (serve k)) → m ≤ n → goes ≡ true
     → Replied Over c right goes m n talk talk' → Says Over c false (λ k more sent. IsOne k b rest more sent) m n talk talk'

@@ -4,7 +4,6 @@
 --   AsksOf Leaves whole qs s t      some first ones of the requests did, and where `whole` all
 --   AsksAsSent Leaves whole qs s t Sent   the same, of as many as Sent says
 --   AsksAlong Leaves c b left s t   those of the bytes b before the bytes that are left did, each answered so
---   SentFor c goes h xs     what was sent for one head: its response, or less of it, or the memory response
 --   AsksBy                  what a turn asked, by what it gave
 --   StaysAnswering          what every call keeps of what answers requests
 --   LeavesIndex             what every call keeps of an engine and its store
@@ -62,17 +61,6 @@ pub record AsksAlong {K : Type 0} (Leaves : K → Request → Result Reply Fetch
   pub spoke : Spoke c (all_bytes sent) false talk talk'
   pub each : length heads ≡ length sent
   pub by : AreResponsesBy sent heads answered
-
--- the response was sent whole, behind what the head asks, and the connection is closed behind it unless it goes on; or the send
--- failed, or the memory response was sent. What was sent is by the answers, and where the connection goes on it is whole
-pub record SentFor (c : ℕ) (goes : Bool) (h : List ℕ) (talk talk' : Option Talk) (answered : List Answered) : Type 0 where
-  pub part : List ℕ
-  pub fails : Bool
-  pub spoke : Spoke c part fails talk talk'
-  pub all : (HasMemory answered × (length answered ≡ length (requests_in (judge h))) × (closes_behind (judge h) ≡ not goes)) ⊎ (fails ≡ true)
-      ⊎ (part ≡ memory_bytes)
-  pub by : IsTextBy (h ∷ []) answered part
-  pub whole : goes ≡ true → (r : Response) × IsResponseBy h answered r × Spoke c (response_bytes r) false talk talk'
 
 -- a head was answered; or no head ends there, and nothing was asked or sent; or the connection is to be closed
 abbrev pub AsksBy : {K : Type 0} → (K → Request → Result Reply FetchFault → K → Type 0) → ℕ → List ℕ → List ℕ → HeadTurn → K → K → Option Talk → Option Talk → Type 0

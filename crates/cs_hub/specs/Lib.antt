@@ -2,6 +2,7 @@ pub mod Asked
 pub mod DueReads
 pub mod Ending
 pub mod HubFollowing
+pub mod Outcomes
 pub mod Responding
 pub mod Rounds
 pub mod Speaking

@@ -5,14 +5,12 @@
 --   IsGiven                  r is that for the response of each corpus that is answered over
 --   Delivered c r goes       a response was sent; the connection goes on or is to be closed
 --   IsSent                   the same of what may be a response, or want of memory
---   Replied                  the same of the response to a head, or memory ran out
 --   IsOne                    one response was sent, and later bytes are served behind it
 --   HoldsBytes, IsTurnedAway what was done where no head ends: the bytes were kept, or more can't come
 --   GoesOn, KeepsUnread, Stops  what a turn did: a head was answered; none ends there; the connection is to be closed
 --   Turned                   these by what the turn gave
 --   HoldsOn, Holds           all that is served was sent, and the connection goes on
---   Reads                    what the bytes of a piece did, by whether the connection goes on
---   KeepsBelow                   what is kept of a connection behind its bytes, by whether it goes on and how many were taken
+--   KeepsBelow               what is kept of a connection that goes on, by how many bytes were taken
 --   Received                 what a piece did, by what is kept of the connection
 --   IsAlong, Along           on the way through the bytes, some first responses were sent
 use Rattle.std.specs.Prelude.{◌≡◌, ◌⊎◌, ℕ, ◌+◌, ◌-◌, ◌<◌, ◌≤◌, Bool, true, false, List, [], ◌∷◌, ◌++◌, length, take, drop, All, Option, Some, None, Result, Ok}
@@ -67,12 +65,6 @@ Delivered c r false talk talk' =
 abbrev pub IsSent : ℕ → Result Answer Memory → Bool → Option Talk → Option Talk → Type 0
 IsSent c (Ok a) goes talk talk' = Delivered c (response a) goes talk talk'
 IsSent c (Err e) goes talk talk' = (goes ≡ false) × Starved c talk talk'
-
--- the response was the one given for a head; or memory ran out before there was one
-abbrev pub Replied : (Corpus → Type 0) → ℕ → (Corpus → Response) → Bool → ℕ → ℕ → Option Talk → Option Talk → Type 0
-Replied Over c right goes before now talk talk' =
-    ((r : Response) × IsGiven Over right r before now × Delivered c r goes talk talk')
-    ⊎ ((goes ≡ false) × Starved c talk talk')
 
 -- ---- turns
 -- the bytes of one response, in the place of the first that is served of b; the others are served of the later bytes
@@ -130,15 +122,10 @@ pub record HoldsOn (k : Corpus) (b unread' more : List ℕ) (sent : List Respons
 abbrev pub Holds : (Corpus → Type 0) → ℕ → List ℕ → List ℕ → ℕ → ℕ → Option Talk → Option Talk → Type 0
 Holds Over c b unread' before now talk talk' = Says Over c false (λ k more sent. HoldsOn k b unread' more sent) before now talk talk'
 
--- by whether the connection goes on; where it does, the unread bytes are those behind the last head
-abbrev pub Reads : (Corpus → Type 0) → ℕ → List ℕ → Bool → List ℕ → ℕ → ℕ → Option Talk → Option Talk → Type 0
-Reads Over c b true unread' before now talk talk' = Holds Over c b unread' before now talk talk' × IsRest b unread'
-Reads Over c b false unread' before now talk talk' = Stops Over c b before now talk talk'
-
--- these unread bytes where it goes on and fewer bytes were taken than count; otherwise nothing
-abbrev pub KeepsBelow : Bool → ℕ → List ℕ → Option Left → Type 0
-KeepsBelow goes taken unread (Some l) = (goes ≡ true) × (taken < MAX_CONNECTION_BYTES) × (l ≡ record { taken = taken; unread = unread })
-KeepsBelow goes taken unread None = goes ≡ true → MAX_CONNECTION_BYTES ≤ taken
+-- these unread bytes where fewer bytes were taken than count; otherwise nothing
+abbrev pub KeepsBelow : ℕ → List ℕ → Option Left → Type 0
+KeepsBelow taken unread (Some l) = (taken < MAX_CONNECTION_BYTES) × (l ≡ record { taken = taken; unread = unread })
+KeepsBelow taken unread None = MAX_CONNECTION_BYTES ≤ taken
 
 -- a piece, of which the first bytes up to the limit count: the connection is kept with these bytes taken; or it is to be closed,
 -- by a response, for want of memory, by a failed send or because the limit was reached

@@ -2,7 +2,7 @@
 ghost use Rattle.std.specs.Prelude.{◌≡◌};
 ghost use Rattle.cs_file.specs.Indexes.{HasAllBlocks};
 
-use crate::answerer::Answerer;
+use crate::answering::Answerer;
 use cs_base::Store;
 use cs_engine::{AskFault, Engine};
 use cs_query::{Reply, Request};

@@ -5,10 +5,11 @@
 #![tactic(auto)]
 
 mod answer;
-mod answerer;
+mod answering;
 mod asking;
 pub mod laws;
 mod line;
+mod outcomes;
 mod reading;
 mod responses;
 mod rounds;
@@ -17,5 +18,7 @@ mod serving;
 mod slots;
 mod steps;
 
+pub use answering::Answerer;
+pub use outcomes::{RequestOutcome, outcome_of};
 pub use serving::{ServeEnd, serve_hub};
 pub use slots::Core;

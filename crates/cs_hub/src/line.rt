@@ -2,9 +2,9 @@
 ghost use Rattle.std.specs.Prelude.{◌≡◌, ◌≤◌, ◌<◌, ◌++◌, ◌-◌, [], length, take, drop, is_some};
 ghost use Rattle.cs_base.specs.declared.content.limits.TheConstants.{MAX_CONNECTION_BYTES as MOST};
 ghost use Rattle.cs_base.specs.outside.Hub.{IsLive};
-ghost use Rattle.cs_hub.specs.{Asked.{AsksAsSent, StaysAnswering}, DueReads.{SentBefore, requests_on}, Speaking.{Calm}, Turns.{KeepsBelow, Reads, Received}};
+ghost use Rattle.cs_hub.specs.{Asked.{AsksAsSent, StaysAnswering}, DueReads.{SentBefore, requests_on}, Speaking.{Calm}, Turns.{KeepsBelow, Received}};
 
-use crate::answerer::Answerer;
+use crate::answering::Answerer;
 use crate::reading::{HeadTurn, Unread};
 use cs_base::{Hub, MAX_CONNECTION_BYTES};
 use std::alloc::Global;
@@ -64,47 +64,25 @@ impl Line {
     {
         let Line { mut reading, taken } = self;
         let counted = first_of(piece, MAX_CONNECTION_BYTES - taken);
-        let goes = read_on(&mut reading, alloc, answerer, hub, conn, counted);
-        kept_of(reading, taken + counted.len(), goes)
+        let mut rest = counted;
+        loop {
+            match reading.turn(alloc, answerer, hub, conn, rest) {
+                HeadTurn::Next(used) => rest = behind(rest, used),
+                HeadTurn::Holds => return kept_of(reading, taken + counted.len()),
+                HeadTurn::Stops => return None,
+            }
+        }
     }
 }
 
-// The connection behind its bytes; None where it is to be closed.
-fn kept_of(reading: Unread, taken: usize, goes: bool) -> Option<Line>
-    ensures { KeepsBelow goes taken reading result }
+// A connection that goes on behind its bytes; None where no more of them count.
+fn kept_of(reading: Unread, taken: usize) -> Option<Line>
+    ensures { KeepsBelow taken reading result }
 {
-    if goes && taken < MAX_CONNECTION_BYTES {
+    if taken < MAX_CONNECTION_BYTES {
         Some(Line { reading, taken })
     } else {
         None
-    }
-}
-
-// Answers the heads in these bytes; true where the connection goes on.
-fn read_on<A: Answerer, H: Hub>(
-    reading: &mut Unread,
-    alloc: Global,
-    answerer: &mut A,
-    hub: &mut H,
-    conn: u32,
-    piece: &[u8],
-) -> bool
-    requires live { IsLive (H.state hub.old) conn }
-
-    ensures reads { Reads (A.answers answerer.old) conn (reading.old ++ piece.now) result reading.new (A.faults answerer.old) (A.faults answerer.new)
-        (H.talk hub.old) (H.talk hub.new) }
-    ensures asked { AsksAsSent A.leaves result (requests_on (reading.old ++ piece.now)) (A.kept answerer.old) (A.kept answerer.new)
-        (SentBefore conn result (reading.old ++ piece.now) (H.talk hub.old) (H.talk hub.new)) }
-    ensures stays { StaysAnswering A.answers A.lent A.faults answerer.old answerer.new }
-    ensures calm { Calm H.state H.talk H.faults H.send_faults hub.old hub.new }
-{
-    let mut rest = piece;
-    loop {
-        match reading.turn(alloc, answerer, hub, conn, rest) {
-            HeadTurn::Next(used) => rest = behind(rest, used),
-            HeadTurn::Holds => return true,
-            HeadTurn::Stops => return false,
-        }
     }
 }
 

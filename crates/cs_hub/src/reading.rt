@@ -1,17 +1,13 @@
 //! The unread bytes of one connection.
-ghost use Rattle.std.specs.Prelude.{◌≡◌, ◌≤◌, ◌<◌, ◌++◌, [], true, false, cond, length, slice_range};
+ghost use Rattle.std.specs.Prelude.{◌≡◌, ◌++◌, [], cond, length};
 ghost use Rattle.cs_base.specs.outside.Hub.{IsLive};
 ghost use Rattle.cs_http.specs.Looking.{IsPlaced, IsBelowLimit, look_of};
-ghost use Rattle.cs_model_serving.specs.Heads.{judge};
-ghost use Rattle.cs_model_serving.specs.Responses.{response_to};
-ghost use Rattle.cs_hub.specs.{Asked.{AsksAsSent, AsksBy, SentFor, StaysAnswering}, DueReads.{closes_behind, requests_in}, Speaking.{Calm}};
-ghost use Rattle.cs_hub.specs.Turns.{IsOpen, Replied, Turned, HoldsBytes, IsTurnedAway, IsSent};
+ghost use Rattle.cs_hub.specs.{Asked.{AsksBy, StaysAnswering}, Speaking.{Calm}, Turns.{HoldsBytes, IsOpen, IsTurnedAway, Turned}};
 
-use crate::answer::Answer;
-use crate::answerer::Answerer;
+use crate::answering::Answerer;
 use crate::responses::{answer_head, too_long};
 use crate::saying::{deliver, starve};
-use cs_base::{Hub, Memory};
+use cs_base::Hub;
 use cs_http::{Look, Seen};
 use std::alloc::Global;
 use std::marker::Model;
@@ -80,10 +76,15 @@ impl Unread {
         match self.look(rest) {
             Look::Head { skip, end } => {
                 let used = end - held;
-                turn_behind(
-                    self.answer(alloc, answerer, hub, conn, &rest[..used], skip),
-                    used,
-                )
+                if self.unread.extend_from_slice(&rest[..used]).is_err() {
+                    starve(hub, conn);
+                    return HeadTurn::Stops;
+                }
+                let answer = answer_head(alloc, answerer, &self.unread.as_slice()[skip..]);
+                let goes = deliver(alloc, hub, conn, answer);
+                self.unread.clear();
+                self.seen = Seen::nothing();
+                turn_behind(goes, used)
             }
             Look::TooLong => {
                 refuse(alloc, hub, conn);
@@ -121,39 +122,6 @@ impl Unread {
             }
         }
     }
-
-    // Answers the head that ends with these bytes, behind so many of empty lines; true where the connection goes on.
-    fn answer<A: Answerer, H: Hub>(
-        &mut self,
-        alloc: Global,
-        answerer: &mut A,
-        hub: &mut H,
-        conn: u32,
-        end: &[u8],
-        skip: usize,
-    ) -> bool
-        requires live { IsLive (H.state hub.old) conn }
-        requires within { skip ≤ length (self.old ++ end.now) }
-
-        ensures replied { Replied (A.answers answerer.old) conn (λ k. response_to k (slice_range (self.old ++ end.now) skip (length (self.old ++ end.now))))
-            result (A.faults answerer.old) (A.faults answerer.new) (H.talk hub.old) (H.talk hub.new) }
-        ensures emptied { result ≡ true → self.new ≡ [] }
-        ensures asked { AsksAsSent A.leaves result (requests_in (judge (slice_range (self.old ++ end.now) skip (length (self.old ++ end.now)))))
-            (A.kept answerer.old) (A.kept answerer.new) (SentFor conn result (slice_range (self.old ++ end.now) skip (length (self.old ++ end.now)))
-            (H.talk hub.old) (H.talk hub.new)) }
-        ensures going { result ≡ true → closes_behind (judge (slice_range (self.old ++ end.now) skip (length (self.old ++ end.now)))) ≡ false }
-        ensures stays { StaysAnswering A.answers A.lent A.faults answerer.old answerer.new }
-        ensures calm { Calm H.state H.talk H.faults H.send_faults hub.old hub.new }
-    {
-        if self.unread.extend_from_slice(end).is_err() {
-            starve(hub, conn);
-            return false;
-        }
-        let answer = answer_head(alloc, answerer, &self.unread.as_slice()[skip..]);
-        self.unread.clear();
-        self.seen = Seen::nothing();
-        send(alloc, hub, conn, answer)
-    }
 }
 
 // A turn that answered a head, which ended behind so many bytes.
@@ -167,22 +135,6 @@ fn turn_behind(goes: bool, used: usize) -> HeadTurn
     }
 }
 
-// Sends a response, or the memory response where there is none; true where the connection goes on.
-fn send<H: Hub>(alloc: Global, hub: &mut H, conn: u32, answer: Result<Answer, Memory>) -> bool
-    requires live { IsLive (H.state hub.old) conn }
-
-    ensures sent { IsSent conn answer result (H.talk hub.old) (H.talk hub.new) }
-    ensures calm { Calm H.state H.talk H.faults H.send_faults hub.old hub.new }
-{
-    match answer {
-        Ok(answer) => deliver(alloc, hub, conn, &answer),
-        Err(_) => {
-            starve(hub, conn);
-            false
-        }
-    }
-}
-
 // Sends the response where no head ends within the limit.
 fn refuse<H: Hub>(alloc: Global, hub: &mut H, conn: u32)
     requires live { IsLive (H.state hub.old) conn }
@@ -190,5 +142,5 @@ fn refuse<H: Hub>(alloc: Global, hub: &mut H, conn: u32)
     ensures refused { IsTurnedAway conn (H.talk hub.old) (H.talk hub.new) }
     ensures calm { Calm H.state H.talk H.faults H.send_faults hub.old hub.new }
 {
-    let _ = deliver(alloc, hub, conn, &too_long());
+    let _ = deliver(alloc, hub, conn, Ok(too_long()));
 }

@@ -1,22 +1,19 @@
 //! The response to a head.
-ghost use Rattle.std.specs.Prelude.{◌≡◌, ◌≢◌, [], ◌∷◌, IfOk, OnErr, is_ok};
+ghost use Rattle.std.specs.Prelude.{◌≡◌, ◌≢◌, Some, IfOk, OnErr, is_ok};
 ghost use Rattle.cs_http.specs.Judging.{IsSearch};
-ghost use Rattle.cs_model.specs.Parameters.{HoldsLimits, request_refusal};
 ghost use Rattle.cs_model_serving.specs.Heads.{judge};
-ghost use Rattle.cs_model_serving.specs.Responses.{response_to, to_params, too_long};
-ghost use Rattle.cs_query.specs.RequestView.{asked};
+ghost use Rattle.cs_model_serving.specs.Responses.{response_to, too_long};
 ghost use Rattle.cs_hub.specs.Asked.{AsksAsSent, StaysAnswering};
-ghost use Rattle.cs_hub.specs.DueReads.{IsBy, IsResponseBy, closes_behind, requests_by, requests_in};
-ghost use Rattle.cs_hub.specs.Responding.{response, IsJudgedSo, IsRefusedSo, reply_response};
+ghost use Rattle.cs_hub.specs.DueReads.{IsResponseBy, closes_behind, requests_in};
+ghost use Rattle.cs_hub.specs.Responding.{response, IsJudgedSo, WantsMemory, response_for};
 ghost use Rattle.cs_hub.specs.Turns.{IsGiven};
 
 use crate::answer::{Answer, Body};
-use crate::answerer::Answerer;
+use crate::answering::Answerer;
+use crate::outcomes::{RequestOutcome, outcome_of};
 use cs_base::Memory;
-use cs_engine::AskFault;
-use cs_http::{HeadFault, head, request};
+use cs_http::{HeadFault, head};
 use cs_json::{Fault, reply_bytes};
-use cs_query::{ReqFault, Request};
 use std::alloc::Global;
 
 /// The response to the bytes of a head, or of what should be one.
@@ -35,7 +32,10 @@ pub(crate) fn answer_head<A: Answerer>(
     ensures stays { StaysAnswering A.answers A.lent A.faults answerer.old answerer.new }
 {
     match head(alloc, bytes) {
-        Ok(asked) => answer_params(alloc, answerer, asked.params.as_slice(), asked.close),
+        Ok(asked) => {
+            let outcome = outcome_of(alloc, answerer, asked.params.as_slice());
+            response_from(alloc, &outcome, asked.close)
+        }
         Err(fault) => refuse_head(fault),
     }
 }
@@ -73,66 +73,23 @@ fn refuse_head(fault: HeadFault) -> Result<Answer, Memory>
     })
 }
 
-// The response to parameters.
-fn answer_params<A: Answerer>(
-    alloc: Global,
-    answerer: &mut A,
-    params: &[u8],
-    close: bool,
-) -> Result<Answer, Memory>
-    ensures ok { IfOk result (λ a. IsGiven (A.answers answerer.old) (λ k. to_params k params.now close) (response a) (A.faults answerer.old)
-        (A.faults answerer.new)) }
-    ensures close { IfOk result (λ a. a.close ≡ close) }
-    ensures asked { AsksAsSent A.leaves (is_ok result) (requests_by params.now (request_refusal params.now)) (A.kept answerer.old) (A.kept answerer.new)
-        (λ xs. IfOk result (λ a. IsBy (λ k. to_params k params.now close) close xs (response a))) }
-    ensures stays { StaysAnswering A.answers A.lent A.faults answerer.old answerer.new }
-{
-    match request(alloc, params) {
-        Ok(request) => reply_to(alloc, answerer, &request, close),
-        Err(fault) => refuse_params(fault, close),
-    }
-}
-
-// The response to refused parameters. It takes no memory: want of it is told only where it was met before.
+// The response by what came of parameters. Only that of a reply takes memory: want of it is told of another only where it was met
+// before.
 #[tactic(auto, unfolding(cs_json::specs::FaultTexts::fault_text))]
-fn refuse_params(fault: ReqFault, close: bool) -> Result<Answer, Memory>
-    ensures refused { IfOk result (λ a. IsRefusedSo fault close (response a)) }
+fn response_from(alloc: Global, outcome: &RequestOutcome, close: bool) -> Result<Answer, Memory>
+    ensures ok { IfOk result (λ a. response_for close outcome.now ≡ Some (response a)) }
     ensures close { IfOk result (λ a. a.close ≡ close) }
-    ensures told { IfOk result (λ a. fault ≢ ReqFault.Memory) }
-    ensures memory { OnErr result (fault ≡ ReqFault.Memory) }
+    ensures memory { OnErr result (WantsMemory outcome.now) }
 {
-    if matches!(fault, ReqFault::Memory) {
-        return Err(Memory);
-    }
-    Ok(Answer {
-        status: 400,
-        close,
-        body: Body::Fault(Fault::Refused(fault)),
-    })
-}
-
-// The response to a request: its reply, or in its place what kept it from being answered.
-#[tactic(auto, unfolding(cs_json::specs::FaultTexts::fault_text))]
-fn reply_to<A: Answerer>(
-    alloc: Global,
-    answerer: &mut A,
-    request: &Request,
-    close: bool,
-) -> Result<Answer, Memory>
-    requires limits { HoldsLimits (asked request.now) }
-
-    ensures ok { IfOk result (λ a. IsGiven (A.answers answerer.old) (λ k. reply_response k (asked request.now) close) (response a) (A.faults answerer.old)
-        (A.faults answerer.new)) }
-    ensures close { IfOk result (λ a. a.close ≡ close) }
-    ensures asked { AsksAsSent A.leaves (is_ok result) (asked request.now ∷ []) (A.kept answerer.old) (A.kept answerer.new)
-        (λ xs. IfOk result (λ a. IsBy (λ k. reply_response k (asked request.now) close) close xs (response a))) }
-    ensures stays { StaysAnswering A.answers A.lent A.faults answerer.old answerer.new }
-{
-    let (status, body) = match answerer.reply(alloc, request) {
-        Ok(reply) => (200, Body::Reply(reply_bytes(alloc, &reply)?)),
-        Err(AskFault::Read) => (500, Body::Fault(Fault::Read)),
-        Err(AskFault::Changed { rule, at }) => (500, Body::Fault(Fault::Changed { rule, at })),
-        Err(AskFault::Memory) => return Err(Memory),
+    let (status, body) = match outcome {
+        RequestOutcome::Refused(fault) => (400, Body::Fault(Fault::Refused(*fault))),
+        RequestOutcome::Replied(_, reply) => (200, Body::Reply(reply_bytes(alloc, reply)?)),
+        RequestOutcome::Read => (500, Body::Fault(Fault::Read)),
+        RequestOutcome::Changed { rule, at } => {
+            let (rule, at) = (*rule, *at);
+            (500, Body::Fault(Fault::Changed { rule, at }))
+        }
+        RequestOutcome::Memory => return Err(Memory),
     };
     Ok(Answer {
         status,

@@ -4,7 +4,7 @@ ghost use Rattle.cs_base.specs.outside.Hub.{IsLive};
 ghost use Rattle.cs_model_serving.specs.Responses.{response_bytes};
 ghost use Rattle.cs_hub.specs.Responding.{response};
 ghost use Rattle.cs_hub.specs.Speaking.{SaidOn, Starved, Calm};
-ghost use Rattle.cs_hub.specs.Turns.{Delivered};
+ghost use Rattle.cs_hub.specs.Turns.{IsSent};
 
 use crate::answer::{Answer, Body};
 use cs_base::{Hub, Memory};
@@ -35,14 +35,23 @@ pub(crate) fn starve<H: Hub>(hub: &mut H, conn: u32)
     let _ = say(hub, conn, memory_response());
 }
 
-/// Sends a response, or the memory response in its place; true where the connection goes on.
-pub(crate) fn deliver<H: Hub>(alloc: Global, hub: &mut H, conn: u32, answer: &Answer) -> bool
+/// Sends a response, or the memory response where there is none or no memory for its bytes; true where the connection goes on.
+pub(crate) fn deliver<H: Hub>(
+    alloc: Global,
+    hub: &mut H,
+    conn: u32,
+    answer: Result<Answer, Memory>,
+) -> bool
     requires live { IsLive (H.state hub.old) conn }
 
-    ensures delivered { Delivered conn (response answer.now) result (H.talk hub.old) (H.talk hub.new) }
+    ensures sent { IsSent conn answer result (H.talk hub.old) (H.talk hub.new) }
     ensures calm { Calm H.state H.talk H.faults H.send_faults hub.old hub.new }
 {
-    match bytes_of(alloc, answer) {
+    let Ok(answer) = answer else {
+        starve(hub, conn);
+        return false;
+    };
+    match bytes_of(alloc, &answer) {
         Ok(text) => say(hub, conn, text.as_slice()) && !answer.close,
         Err(_) => {
             starve(hub, conn);

@@ -11,7 +11,7 @@ ghost use Rattle.cs_hub.specs.{Asked.{AsksAsSent, LeavesIndex, StaysAnswering}, 
 ghost use Rattle.cs_hub.specs.{HubFollowing.{HasLive, HasLiveBut, IsWhole, StaysRight, left_at}, Speaking.{BreaksBy, Starved}};
 ghost use Rattle.cs_hub.specs.DueReads.{AnswersWithin, SentAt, SentBefore, bytes_behind, bytes_to_answer, goes_on, requests_on};
 
-use crate::answerer::Answerer;
+use crate::answering::Answerer;
 use crate::asking::Asking;
 use crate::line::Line;
 use crate::saying::starve;

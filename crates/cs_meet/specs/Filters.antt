@@ -4,12 +4,11 @@
 --   keep_docs rows docs      the rows in a listed document
 --   follow a b               the rows of b one position behind a row of a
 --   near a b                 the rows of b from 1 to MAX_DISTANCE positions before or behind a row of a
---   missing a b              the rows of b whose document, position and word no row of a has
---   IsUnion a b rows         rows are those of a and the missing ones of b
+--   shares_place r x         x has the document, position and word of r
+--   IsUnion rows posts       posts are the first rows at each place
 --   drop_docs base rows      the scored documents that have no row
-use Rattle.std.specs.Prelude.{ℕ, ◌+◌, ◌-◌, Bool, ◌&&◌, not, ◌==◌, nat_lt, nat_le, List, ◌++◌}
-use Rattle.std.specs.List.{filter, list_any}
-use Rattle.std.specs.List.Sorted.{IsPermutation}
+use Rattle.std.specs.Prelude.{◌≡◌, ℕ, ◌+◌, ◌-◌, Bool, ◌&&◌, not, true, ◌==◌, nat_lt, nat_le, List, Some}
+use Rattle.std.specs.List.{All, filter, find, list_any}
 use Rattle.cs_base.specs.declared.content.limits.TheConstants.{MAX_DISTANCE}
 use Rattle.cs_base.specs.declared.content.doc.Post.{Post}
 use Rattle.cs_base.specs.declared.content.doc.Scored.{Scored}
@@ -46,13 +45,10 @@ near a b = filter (λ r. list_any (is_near r) a) b
 abbrev pub shares_place : Post → Post → Bool
 shares_place r x = (x.doc == r.doc) && ((x.pos == r.pos) && (x.word == r.word))
 
--- the rows of b whose document, position and word no row of a has; all where a has none
-abbrev pub missing : List Post → List Post → List Post
-missing a b = filter (λ r. not (list_any (shares_place r) a)) b
-
--- rows are, in some order, those of a and the missing ones of b
-abbrev pub IsUnion : List Post → List Post → List Post → Type 0
-IsUnion a b rows = IsPermutation (a ++ missing a b) rows
+-- each of the posts is the first row at its place, and each row shares its place with one of them; of no rows there is no post
+pub record IsUnion (rows posts : List Post) : Type 0 where
+  pub first : All (λ p. find (shares_place p) rows ≡ Some p) posts
+  pub placed : All (λ r. list_any (shares_place r) posts ≡ true) rows
 
 -- the row is in the scored document
 abbrev pub is_of : Scored → Post → Bool

@@ -9,15 +9,9 @@
 --   AheadOf doc docs b i j   the first i documents are less than the document of each entry of b from j on
 --   SplitsDocs docs n d      n is the first place whose document isn't less than d
 --   LiesBetween docs from end d      the first place whose document isn't less than d is one of those from `from` up to end, or end
---   AllLess posts n r        the first n posts come before r, by document, position and word
---   SplitsBefore posts n r   n is the first place that doesn't come before r
---   KeepsOrder old left new r    what may come behind old with r first may do so behind new, where left may come behind old
 --   near_at posts n r        there is a post at n, and it stands near r
-use Rattle.std.specs.Prelude.{◌≡◌, ℕ, ◌<◌, ◌≤◌, Bool, true, false, ◌&&◌, ◌||◌, ◌==◌, nat_lt, List, ◌∷◌, ◌++◌, length, slice_index_or, slice_index}
-use Rattle.std.specs.Ordering.{is_lt}
-use Rattle.std.specs.declared.cmp.Ordering.TheVariants.{Less}
+use Rattle.std.specs.Prelude.{◌≡◌, ℕ, ◌<◌, ◌≤◌, Bool, true, false, ◌&&◌, ◌||◌, ◌==◌, nat_lt, List, length, slice_index_or, slice_index}
 use Rattle.cs_base.specs.declared.content.doc.Post.{Post}
-use Rattle.cs_base.specs.content.Orders.{by_place, AreSorted}
 use Rattle.cs_meet.specs.Filters.{is_near}
 
 -- x stands in an earlier document than d, or in d before position p
@@ -63,20 +57,6 @@ pub record LiesBetween (docs : List ℕ) (from end d : ℕ) : Type 0 where
   pub within : end ≤ length docs
   pub below : AllBelow docs from d
   pub stop : end < length docs → d ≤ slice_index docs end
-
--- the first n posts come before r
-abbrev pub AllLess : List Post → ℕ → Post → Type 0
-AllLess posts n r = (k : ℕ) (e : Post) → k < n → by_place (slice_index_or posts k e) r ≡ Less
-
--- n is the first place that doesn't come before r, or the end
-pub record SplitsBefore (posts : List Post) (n : ℕ) (r : Post) : Type 0 where
-  pub within : n ≤ length posts
-  pub less : AllLess posts n r
-  pub stop : (e : Post) → n < length posts → is_lt (by_place (slice_index_or posts n e) r) ≡ false
-
--- where left may come behind old, whatever may come behind old with r first may come behind new in the same way
-abbrev pub KeepsOrder : List Post → List Post → List Post → Post → Type 0
-KeepsOrder old left new r = (rest : List Post) → AreSorted (old ++ left) → AreSorted (old ++ r ∷ rest) → AreSorted (new ++ r ∷ rest)
 
 -- the first i documents are less than the document of each entry of b from j on
 pub record AheadOf {B : Type 0} (doc : B → ℕ) (docs : List ℕ) (b : List B) (i j : ℕ) : Type 0 where

@@ -5,6 +5,7 @@
 #![tactic(auto)]
 
 mod documents;
+mod fronts;
 mod links;
 mod skip;
 mod union;

@@ -1,81 +1,59 @@
-//! The union of two lists of posts.
-ghost use Rattle.std.specs.Prelude.{◌≡◌, ◌+◌, ◌≤◌, ◌++◌, length, drop, IfOk};
-ghost use Rattle.std.specs.List.{list_any};
+//! The union of lists of posts.
+ghost use Rattle.std.specs.Prelude.{◌≡◌, ◌+◌, ◌≤◌, ◌++◌, flat_map, length, IfOk};
+ghost use Rattle.std.specs.List.{All};
 ghost use Rattle.cs_base.specs.content.Orders.{AreSorted};
-ghost use Rattle.cs_meet.specs.Filters.{IsUnion, shares_place};
-ghost use Rattle.cs_meet.specs.RowPlaces.{AllLess, SplitsBefore, KeepsOrder};
+ghost use Rattle.cs_meet.specs.Filters.{IsUnion};
 
+use crate::fronts::{MOST_LISTS, first_fronts, front_at, list_of_front, place_of_front, put_front};
 use crate::skip::add_where;
-use cs_base::{Memory, Post};
+use cs_base::Memory;
 use cs_cols::Cols;
 use std::alloc::Global;
 
-/// The rows of a, and those of b whose document, position and word no row of a has, in order.
+/// The rows of some lists in order, each document, position and word once.
 ///
-/// Where rows of one document, position and word have one score, this is the union, each row once.
-pub fn unite(alloc: Global, a: &Cols, b: &Cols) -> Result<Cols, Memory>
-    requires a_sorted { AreSorted a.now.posts }
-    requires b_sorted { AreSorted b.now.posts }
+/// Where rows of one document, position and word have one score, this is the union. Each row is moved once.
+pub fn unite(alloc: Global, lists: &[Cols]) -> Result<Cols, Memory>
+    requires { All (λ c. AreSorted c.posts) lists.now }
 
-    ensures ok { IfOk result (λ c. IsUnion a.now.posts b.now.posts c.posts) }
+    ensures ok { IfOk result (λ c. IsUnion (flat_map (λ l. l.posts) lists.now) c.posts) }
     ensures sorted { IfOk result (λ c. AreSorted c.posts) }
 {
-    let mut found = Cols::with_capacity(alloc, a.len() + b.len())?;
-    let mut i = 0;
-    for j in 0..b.len() {
-        let row = b.get(j);
-        i = take_until(&mut found, a, i, row);
-        add_where(&mut found, !has_place(a, i, row), row);
+    if lists.is_empty() {
+        return Ok(Cols::new(alloc));
     }
-    take_rest(&mut found, a, i);
+    if lists.len() > MOST_LISTS {
+        return Err(Memory);
+    }
+    let rows = count_rows(lists)?;
+    let mut found = Cols::with_capacity(alloc, rows)?;
+    let mut heads = vec![in alloc; 0; lists.len()]?;
+    let mut tree = first_fronts(alloc, lists)?;
+    let mut next = 0;
+    let mut number = list_of_front(tree[1]);
+    while number < lists.len() {
+        let place = place_of_front(tree[1]);
+        let head = heads[number];
+        add_where(&mut found, place >= next, lists[number].get(head));
+        next = place + 1;
+        heads[number] = head + 1;
+        let front = front_at(&lists[number], head + 1, number);
+        put_front(&mut tree, lists.len(), number, front);
+        number = list_of_front(tree[1]);
+    }
     Ok(found)
 }
 
-// Adds the posts from `from` on that come before the row, in the room that there is. It gives the first place left.
-fn take_until(found: &mut Cols, posts: &Cols, from: usize, row: Post) -> usize
-    requires within { from ≤ length posts.now.posts }
-    requires less { AllLess posts.now.posts from row }
-    requires room { length posts.now.posts ≤ found.old.room + from }
-
-    ensures splits { SplitsBefore posts.now.posts result row }
-    ensures moved { found.new.posts ++ drop result posts.now.posts ≡ found.old.posts ++ drop from posts.now.posts }
-    ensures order { KeepsOrder found.old.posts (drop from posts.now.posts) found.new.posts row }
-    ensures room { found.old.room + from ≤ found.new.room + result }
+// How many rows the lists have.
+fn count_rows(lists: &[Cols]) -> Result<usize, Memory>
+    ensures { IfOk result (λ n. n ≡ length (flat_map (λ l. l.posts) lists.now)) }
 {
-    let mut at = from;
-    while at < posts.len() && posts.get(at).is_before(row) {
-        found.push_reserved(posts.get(at));
-        at += 1;
+    let mut rows: usize = 0;
+    for list in lists {
+        let Some(more) = rows.checked_add(list.len()) else {
+            return Err(Memory);
+        };
+        rows = more;
     }
-    at
-}
-
-// Adds all posts from `from` on, in the room that there is.
-fn take_rest(found: &mut Cols, posts: &Cols, from: usize)
-    requires within { from ≤ length posts.now.posts }
-    requires room { length posts.now.posts ≤ found.old.room + from }
-
-    ensures { found.new.posts ≡ found.old.posts ++ drop from posts.now.posts }
-{
-    for at in from..posts.len() {
-        found.push_reserved(posts.get(at));
-    }
-}
-
-// Whether a post has the row's place, where `i` is the first place that doesn't come before the row.
-#[inline]
-fn has_place(posts: &Cols, i: usize, row: Post) -> bool
-    requires sorted { AreSorted posts.now.posts }
-    requires splits { SplitsBefore posts.now.posts i row }
-
-    ensures { result ≡ list_any (shares_place row) posts.now.posts }
-{
-    i < posts.len() && is_placed_as(row, posts.get(i))
-}
-
-#[inline]
-fn is_placed_as(row: Post, post: Post) -> bool
-    ensures { result ≡ shares_place row post }
-{
-    post.doc == row.doc && post.pos == row.pos && post.word == row.word
+    Ok(rows)
 }

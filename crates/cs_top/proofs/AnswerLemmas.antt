@@ -4,29 +4,31 @@
 --   passes          a line whose answer was put is passed
 --   stops_there     a line whose answer wasn't put whole ends the script
 --   line_ok, line_err        the same of the result of putting it
---   refusal_is, reply_is     a refusal and a reply as the text of the line
+--   refusal_is, reply_is, read_is     a refusal, a reply and a failed read as the text of the line
+--   text_came, read_came, changed_came     what came of it
 --   refusal_put, reply_put, changed_put     over any files: the text of a refusal, of a reply and of a changed index file
 --   change_line     the last names the rule and its place
-use Rattle.std.proofs.Common.{◌≡◌, ◌≢◌, ◌==◌, ℕ, ◌≤◌, true, false, List, [], ◌∷◌, ◌++◌, length, inl, inr, refl, sym, subst, Vec, Global}
+use Rattle.std.proofs.Common.{◌≡◌, ◌≢◌, ◌==◌, ℕ, ◌≤◌, true, false, List, [], ◌∷◌, ◌++◌, length, inl, inr, refl, sym, ◌∙◌, ap, subst, Vec, Global}
 use Rattle.std.specs.Prelude.{Option, Some, None, is_some, Result, Ok, Err, OnOk, OnErr, IfOk, IfErr}
 use Rattle.std.specs.Option.{ForSome}
 use Rattle.cs_base.specs.declared.content.query.Query.{Query}
 use Rattle.cs_base.specs.declared.memory.Memory.{Memory}
 use Rattle.cs_engine.specs.Asking.{BreaksIndex}
-use Rattle.cs_file.specs.Indexes.{IndexView}
+use Rattle.cs_engine.specs.Keeping.{EngineView}
+use Rattle.cs_file.specs.Indexes.{CausedReads, IndexView}
 use Rattle.cs_http.specs.Refusing.{IsCause}
 use Rattle.cs_json.specs.FaultTexts.{fault_text}
 use Rattle.cs_json.specs.declared.fault.Fault.TheVariants as faults
 use Rattle.cs_query.specs.declared.request.ReqFault.{ReqFault}
 use Rattle.cs_query.specs.declared.request.ReqFault.TheVariants as causes
 use Rattle.cs_base.specs.outside.Causes.{Rose}
-use Rattle.cs_base.specs.outside.Outside.{Grew, GrewByPrefix}
+use Rattle.cs_base.specs.outside.Outside.{Grew, GrewByPrefix, Held}
 use Rattle.cs_model.specs.Corpus.{Corpus}
 use Rattle.cs_model.specs.Outputs.{MayPut, line_fault, memory_text, read_text}
 use Rattle.cs_model.specs.Parameters.{request_of, request_refusal}
 use Rattle.cs_model.specs.Replies.{Reply}
 use Rattle.cs_model.specs.Requests.{Request, reply_of}
-use Rattle.cs_top.specs.Answering.{CameCounts, Costs, FileView, HasReply, HasText, MayAnswer, came_of_answer, line_bytes}
+use Rattle.cs_top.specs.Answering.{AnswersOver, CameCounts, CameOver, Costs, FileView, HasText, MayAnswer, came_of_answer, line_bytes}
 use Rattle.cs_top.specs.CommandLine.{failed, CausedBy}
 use Rattle.cs_top.specs.HitForms.{AtHand, form_by, shown_reply}
 use Rattle.cs_top.specs.Met.{Wrote}
@@ -41,6 +43,7 @@ use Rattle.cs_top.specs.declared.script.answers.Answer.{Answer}
 use Rattle.cs_top.specs.declared.script.answers.Answer.TheVariants as answers
 use Rattle.cs_top.specs.declared.words.HitForm.{HitForm}
 use Rattle.cs_top.proofs.LineTexts.{refused_own}
+use Rattle.cs_top.proofs.OverLemmas.{came_none}
 use Rattle.cs_top.proofs.PutTextLemmas.{change_put, text_put}
 use Rattle.cs_top.proofs.ShownLemmas.{memory_shown, refused_shown, reply_in, reply_shown}
 use Rattle.cs_top.proofs.TextsApart.{memory_apart, own_unread, replied_apart}
@@ -101,13 +104,38 @@ none_there : (o : Option (List ℕ)) → (is_some o ≡ true → ⊥) → o ≡ 
 none_there None never = refl
 none_there (Some b) never = absurd (never refl)
 
--- the reply to a request, as the answer to its line
-pub reply_is : (docs : AtHand) (f : FileView) (k : Corpus) (p : List ℕ) (r : Request) (a : Answer) → request_refusal p ≡ None → r ≡ request_of p → HasReply docs k r a → (is_some f.made ≡ true → came_of_answer a ≢ came.Read) → HasText (MayAnswer docs f k) p a
-reply_is docs f k p r (answers.Text b) accepted is h unread =
-    (shown_reply docs r.query (reply_of k r), h, inl (reply_shown docs k p r accepted is), replied_apart (form_by docs) (shown_reply docs r.query (reply_of k r)) (reply_in docs r.query (reply_of k r)))
-reply_is docs f k p r answers.Memory accepted is h unread = tt
-reply_is docs f k p r answers.Read accepted is h unread = inr (none_there f.made (λ e. unread e refl), accepted, refl)
-reply_is docs f k p r (answers.Changed b) accepted is h unread = h
+-- the reply to a request, as the answer to its line; without memory for its text that of want of memory
+pub reply_is : (docs : AtHand) (f : FileView) (k : Corpus) (p : List ℕ) (q : Request) (x : Reply) (r : Result (Vec ℕ Global) Memory) (a : Answer) → request_refusal p ≡ None → q ≡ request_of p → x ≡ reply_of k (request_of p)
+    → IfOk r (λ b. a ≡ answers.Text b) → OnErr r (a ≡ answers.Memory) → IfOk r (λ b. b.items ≡ shown_reply docs q.query x ++ 10 ∷ []) → HasText (MayAnswer docs f k) p a
+reply_is docs f k p q x (Ok b) a accepted is right whole none text =
+    let shown = shown_reply docs q.query (reply_of k q) in
+    let items : b.items ≡ shown ++ 10 ∷ [] = text ∙ ap (λ y. shown_reply docs q.query y ++ 10 ∷ []) (right ∙ ap (reply_of k) (sym is)) in
+    subst (HasText (MayAnswer docs f k) p) (sym whole) (shown, items, inl (reply_shown docs k p q accepted is), replied_apart (form_by docs) shown (reply_in docs q.query (reply_of k q)))
+reply_is docs f k p q x (Err e) a accepted is right whole none text = subst (HasText (MayAnswer docs f k) p) (sym none) tt
+
+-- a failed read in the place of a reply: files were read
+pub read_is : (docs : AtHand) (f : FileView) (k : Corpus) (p : List ℕ) → request_refusal p ≡ None → (is_some f.made ≡ true → ⊥) → MayAnswer docs f k p read_text
+read_is docs f k p accepted never = inr (none_there f.made never, accepted, refl)
+
+-- ---- what came of the line
+pub text_came : (e : EngineView) (f : FileView) (held : Option Held) (r : Result (Vec ℕ Global) Memory) (a : Answer) (n m : ℕ) → IfOk r (λ b. a ≡ answers.Text b) → OnErr r (a ≡ answers.Memory) → CausedReads false n m
+    → CameOver e f held (came_of_answer a) n m
+text_came e f held (Ok b) a n m whole none caused = subst (λ x. CameOver e f held (came_of_answer x) n m) (sym whole) (came_none e f held n m (caused.quiet refl))
+text_came e f held (Err x) a n m whole none caused = subst (λ x. CameOver e f held (came_of_answer x) n m) (sym none) (came_none e f held n m (caused.quiet refl))
+
+pub read_came : (e : EngineView) (f : FileView) (held : Option Held) (n m : ℕ) → (is_some f.made ≡ true → ⊥) → CausedReads true n m → CameOver e f held came.Read n m
+read_came e f held n m never caused = record {
+  unchanged = λ k over e. cc e;
+  unread = λ some e. never some;
+  counts = record { later = caused.later; read = λ e. caused.failed refl; quiet = λ other. absurd (other refl) };
+}
+
+pub changed_came : (e : EngineView) (f : FileView) (held : Option Held) (n m : ℕ) → ((k : Corpus) → AnswersOver e f held k → ⊥) → CausedReads false n m → CameOver e f held came.Changed n m
+changed_came e f held n m never caused = record {
+  unchanged = λ k over e. never k over;
+  unread = λ some e. cc e;
+  counts = record { later = caused.later; read = λ e. absurd (cc e); quiet = λ other. caused.quiet refl };
+}
 
 -- ---- over any files
 pub refusal_put : (form : HitForm) (e : ReqFault) (r : Result (Vec ℕ Global) Memory) (a : Answer) → IfOk r (λ b. a ≡ answers.Text b) → OnErr r (a ≡ answers.Memory) → IfOk r (λ b. b.items ≡ fault_text (faults.Refused e) ++ 10 ∷ []) → OnOk r (e ≢ causes.Memory) → HasTextBy form a

@@ -4,12 +4,15 @@
 --   over_none, came_none     of no lines
 --   over_behind              behind a call that leaves what is held
 --   over_more, came_more     of some lines and of more
-use Rattle.std.proofs.Common.{◌≡◌, ℕ, true, refl, sym, subst, ◌∙◌, arith}
+--   standing_same, comes_same     what comes of parameters, by other names of what is asked
+use Rattle.std.proofs.Common.{◌≡◌, ℕ, List, true, ap, refl, sym, subst, ◌∙◌, arith}
 use Rattle.std.specs.Prelude.{Option, is_some}
 use Rattle.cs_base.specs.outside.Outside.{Held}
 use Rattle.cs_engine.specs.Keeping.{EngineView}
+use Rattle.cs_hub.specs.Outcomes.{ComesOf}
+use Rattle.cs_hub.specs.declared.outcomes.RequestOutcome.{RequestOutcome}
 use Rattle.cs_model.specs.Corpus.{Corpus}
-use Rattle.cs_top.specs.Answering.{AnswersOver, CameOver, FileView, StaysOver, worst}
+use Rattle.cs_top.specs.Answering.{AnswersOver, CameOver, FileLeaves, FileStanding, FileView, StaysOver, file_standing, worst}
 use Rattle.cs_top.specs.declared.script.WhatCame.{WhatCame}
 use Rattle.cs_top.specs.declared.script.WhatCame.TheVariants.{Answered}
 use Rattle.cs_top.proofs.TallyLemmas.{counts_more, not_changed, not_read}
@@ -44,3 +47,9 @@ module _ {e e' : EngineView} {f f' : FileView} {x y : Option Held} (s : StaysOve
     unread = λ some. not_read a b (p.unread some) (q.unread (subst (λ g. is_some g.made ≡ true) (sym s.file) some));
     counts = counts_more a b n m k p.counts q.counts;
   }
+
+pub standing_same : (e e' : EngineView) (f f' : FileView) (x y : Option Held) → e ≡ e' → f ≡ f' → x ≡ y → file_standing e f x ≡ file_standing e' f' y
+standing_same e e' f f' x y p q r = ap (λ z. file_standing z f x) p ∙ ap (λ z. file_standing e' z x) q ∙ ap (file_standing e' f') r
+
+pub comes_same : (p : List ℕ) (o : RequestOutcome) (s s' t t' : FileStanding) → s ≡ s' → t ≡ t' → ComesOf FileLeaves p s o t → ComesOf FileLeaves p s' o t'
+comes_same p o s s' t t' d e h = subst (λ x. ComesOf FileLeaves p x o t') d (subst (λ x. ComesOf FileLeaves p s o x) e h)

@@ -5,6 +5,8 @@
 --   IsThere i f held           a file that fits the index
 --   AnswersOver e f held k     k is the corpus of an index file that stands for the engine's index, and what the engine keeps is good
 --   StaysOver e e' f f' h h'    what a corpus is answered over is so still, with the same index, file and files
+--   FileStanding, file_standing     the index, its file and what the files hold
+--   FileLeaves s q r t         a request with this answer was asked of them
 --   IsReplayed k l t           t may be put for the line over an index file: its text, the memory text, or in a reply's place that of a
 --                              failed read
 --   MayAnswer docs f k         what may be put for a line over this file, with these documents at hand for excerpts
@@ -16,19 +18,22 @@
 --   came_of_answer a           what comes of a line by what is put for it
 --   line_bytes a               what is put for it, with its line ending
 --   HasText A l a              what is put for a line has a text by A; no change is put
---   HasReply docs k r a        what is put for a request has the text of its reply, or of a failed read
-use Rattle.std.specs.Prelude.{◌≡◌, ◌≢◌, ◌⊎◌, ℕ, ◌≤◌, true, List, [], ◌∷◌, ◌++◌, Option, Some, None, is_some}
+use Rattle.std.specs.Prelude.{◌≡◌, ◌≢◌, ◌⊎◌, ℕ, ◌≤◌, true, false, List, [], ◌∷◌, ◌++◌, Option, Some, None, is_some, Result, IfErr}
 use Rattle.std.specs.Option.{option_or}
 use Rattle.cs_base.specs.outside.Causes.{Rose}
 use Rattle.cs_base.specs.outside.Outside.{Held, file_bytes}
+use Rattle.cs_engine.specs.Asking.{IsChangeIn}
 use Rattle.cs_engine.specs.Keeping.{EngineView, AreGood}
+use Rattle.cs_file.specs.CallAnswers.{is_read}
 use Rattle.cs_file.specs.Indexes.{IndexView, HasAllBlocks, StandsFor}
+use Rattle.cs_file.specs.declared.fault.FetchFault.{FetchFault}
 use Rattle.cs_model.specs.Corpus.{Corpus}
 use Rattle.cs_model.specs.Outputs.{MayPut, IsAnswer, memory_text, read_text}
 use Rattle.cs_model.specs.Parameters.{request_refusal}
-use Rattle.cs_model.specs.Requests.{Request, reply_of}
+use Rattle.cs_model.specs.Replies.{Reply}
+use Rattle.cs_model.specs.Requests.{Request}
 use Rattle.cs_model_index.specs.Sections.{file_corpus}
-use Rattle.cs_top.specs.HitForms.{AtHand, MayShow, shown_reply}
+use Rattle.cs_top.specs.HitForms.{AtHand, MayShow}
 use Rattle.cs_top.specs.Met.{HasToldSize}
 use Rattle.cs_top.specs.declared.script.WhatCame.{WhatCame}
 use Rattle.cs_top.specs.declared.script.WhatCame.TheVariants.{Answered, Read, Changed}
@@ -61,6 +66,21 @@ pub record StaysOver (e e' : EngineView) (f f' : FileView) (held held' : Option 
   pub engine : e'.index ≡ e.index
   pub file : f' ≡ f
   pub files : held' ≡ held
+
+-- what is asked, between requests; none of these changes
+pub record FileStanding : Type 0 where
+  pub index : IndexView
+  pub file : FileView
+  pub held : Option Held
+
+-- that of an engine over a file
+abbrev pub file_standing : EngineView → FileView → Option Held → FileStanding
+file_standing e f held = record { index = e.index; file = f; held = held }
+
+-- a change is told by a rule that the bytes break, where they break it, and a file in memory is never read in vain
+pub record FileLeaves (s : FileStanding) (q : Request) (r : Result Reply FetchFault) (t : FileStanding) : Type 0 where
+  pub changed : IfErr r (IsChangeIn s.index (bytes_there s.file s.held))
+  pub unread : is_some s.file.made ≡ true → is_read r ≡ false
 
 -- an answer to the line, or in the place of a reply the text of a failed read; a refused line has its own text
 abbrev pub IsReplayed : Corpus → MayPut
@@ -117,10 +137,3 @@ HasText A l (answers.Text b) = (t : List ℕ) × (b.items ≡ t ++ 10 ∷ []) ×
 HasText A l answers.Memory = Unit {0}
 HasText A l answers.Read = A l read_text
 HasText A l (answers.Changed b) = ⊥
-
--- the text of the reply, want of memory or a failed read
-abbrev pub HasReply : AtHand → Corpus → Request → Answer → Type 0
-HasReply docs k r (answers.Text b) = b.items ≡ shown_reply docs r.query (reply_of k r) ++ 10 ∷ []
-HasReply docs k r answers.Memory = Unit {0}
-HasReply docs k r answers.Read = Unit {0}
-HasReply docs k r (answers.Changed b) = ⊥

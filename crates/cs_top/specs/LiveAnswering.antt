@@ -4,15 +4,22 @@
 --   IsLiveAt b l s              the same, the bytes stand for the index, and what is kept of answers is good
 --   LiveOver l f held b s       the same over a file that tells these bytes
 --   StaysIndex l l' h h'        the index and what is held are the same
+--   AnswersNow l f held k       k is the corpus of such a state
+--   LiveStanding, live_standing     the index, how many changes there were, and what the files hold
+--   LiveLeaves s q r t          a request with this answer was asked of them
 --   Tells b s x o e             an outcome is put as the text of what the line x, as one that adds or deletes, does in this state; or as that of want
 --                               of memory, and the state stays
 --   TellsAddition b s f doc o e     the same of a document that isn't refused, where f is the refusal of its room
-use Rattle.std.specs.Prelude.{◌≡◌, ◌⊎◌, ℕ, List, [], ◌∷◌, ◌++◌, length, Option, Some, None}
+use Rattle.std.specs.Prelude.{◌≡◌, ◌⊎◌, ℕ, List, [], ◌∷◌, ◌++◌, length, Option, Some, Result}
 use Rattle.cs_base.specs.outside.Outside.{Held, file_bytes}
 use Rattle.cs_base.specs.declared.content.doc.Doc.{Doc}
-use Rattle.cs_file.specs.Indexes.{StandsFor}
-use Rattle.cs_live.specs.Lives.{AreGoodNow, IsBehind, LiveView, changes_in, next_number}
+use Rattle.cs_file.specs.Indexes.{IndexView, StandsFor}
+use Rattle.cs_file.specs.declared.fault.FetchFault.{FetchFault}
+use Rattle.cs_live.specs.Lives.{AreGoodNow, IsBehind, LiveView, changes_in}
+use Rattle.cs_model.specs.Corpus.{Corpus}
 use Rattle.cs_model.specs.Outputs.{memory_text}
+use Rattle.cs_model.specs.Replies.{Reply}
+use Rattle.cs_model.specs.Requests.{Request}
 use Rattle.cs_model_changes.specs.Changes.{Change, now}
 use Rattle.cs_model_index.specs.Sections.{file_corpus, image_of}
 use Rattle.cs_model_live.specs.Courses.{additions_in}
@@ -59,3 +66,21 @@ TellsAddition b s full doc o e =
     let became = by_refusals None full doc in
     ((told_bytes o ≡ outcome_text (file_corpus b) s became ++ 10 ∷ []) × (e ≡ outcome_state (image_of b).weights (file_corpus b) s became))
     ⊎ ((told_bytes o ≡ memory_text ++ 10 ∷ []) × (e ≡ s))
+
+-- of files that don't tell there is no such corpus
+abbrev pub AnswersNow : LiveView → List ℕ → Option Held → Corpus → Type 0
+AnswersNow l name held k = (b : List ℕ) × (s : LiveState) × LiveOver l name held b s × (k ≡ s.corpus)
+
+-- no request changes either
+pub record LiveStanding : Type 0 where
+  pub index : IndexView
+  pub changes : ℕ
+  pub held : Option Held
+
+-- as they stand
+abbrev pub live_standing : LiveView → Option Held → LiveStanding
+live_standing l held = record { index = l.state.index; changes = changes_in l; held = held }
+
+-- whatever the answer is
+abbrev pub LiveLeaves : LiveStanding → Request → Result Reply FetchFault → LiveStanding → Type 0
+LiveLeaves s q r t = t ≡ s

@@ -26,6 +26,7 @@ pub record AreScored (listed : List Scored) : Type 0 where
 pub record IsFit (i : Inputs) : Type 0 where
   pub rows : ArePosts i.rows.posts
   pub other : ArePosts i.other.posts
+  pub both : All (λ c. AreSorted c.posts) i.both.items
   pub docs : AreDocs i.docs.items
   pub listed : AreScored i.listed
   pub base : IsBase i.base

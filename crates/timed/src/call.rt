@@ -87,7 +87,7 @@ fn pass(alloc: Global, call: Call, inputs: &Inputs) -> Result<u64, Memory>
         Call::KeepDocs => told(&keep_docs(alloc, a, inputs.docs.as_slice())?),
         Call::Follow => told(&follow(alloc, a, b)?),
         Call::Near => told(&near(alloc, a, b)?),
-        Call::Unite => told(&unite(alloc, a, b)?),
+        Call::Unite => told(&unite(alloc, &inputs.both)?),
         Call::DocsOf => told_docs(docs_of(alloc, a)?.as_slice()),
         Call::DropDocs => told_scored(&drop_docs(alloc, inputs.listed.as_slice(), a)?),
         Call::Completions => told_table(&completions(alloc, a, CUT)?),

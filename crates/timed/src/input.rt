@@ -1,5 +1,6 @@
 //! What the calls on columns are run on, and the test that they may be.
-ghost use Rattle.std.specs.Prelude.{◌≡◌, true, IfOk, IfSome};
+ghost use Rattle.std.specs.Prelude.{◌≡◌, true, All, IfOk, IfSome};
+ghost use Rattle.cs_base.specs.content.Orders.{AreSorted};
 ghost use Rattle.timed.specs.Fit.{IsFit, ArePosts, AreScored};
 
 use crate::numbers::{posts, ranked};
@@ -16,6 +17,8 @@ pub(crate) struct Inputs {
     pub(crate) rows: Cols,
     /// The other posts.
     pub(crate) other: Cols,
+    /// Both as lists.
+    pub(crate) both: Vec<Cols>,
     /// The documents of the other posts.
     pub(crate) docs: Vec<u32>,
     /// The same with their scores.
@@ -37,6 +40,7 @@ pub(crate) fn made_inputs(alloc: Global, rows: u32, other: u32) -> Result<Option
     if !are_posts(&a) || !are_posts(&b) {
         return Ok(None);
     }
+    let both = copies(alloc, &a, &b)?;
     let docs = docs_of(alloc, &b)?;
     let listed = doc_scores(alloc, &Base::All, &b)?;
     let base = doc_scores(alloc, &Base::All, &b)?;
@@ -46,12 +50,26 @@ pub(crate) fn made_inputs(alloc: Global, rows: u32, other: u32) -> Result<Option
     Ok(Some(Inputs {
         rows: a,
         other: b,
+        both,
         docs,
         listed,
         base: Base::Listed(base),
         ranked: ranked(alloc, rows, 3)?,
         best: other,
     }))
+}
+
+// Both lists once more.
+fn copies(alloc: Global, a: &Cols, b: &Cols) -> Result<Vec<Cols>, Memory>
+    requires a { AreSorted a.now.posts }
+    requires b { AreSorted b.now.posts }
+
+    ensures { IfOk result (λ lists. All (λ c. AreSorted c.posts) lists.items) }
+{
+    let mut lists = Vec::new(alloc);
+    lists.push(a.copy(alloc)?)?;
+    lists.push(b.copy(alloc)?)?;
+    Ok(lists)
 }
 
 // Whether the posts strictly ascend, and their documents and words are in the limits.

@@ -1,43 +1,36 @@
 //! One line of a script that adds documents, deletes them or asks, answered.
-ghost use Rattle.std.specs.Prelude.{◌≡◌, ◌≢◌, ◌≤◌, ℕ, List, All, None, length, IfOk, IfErr, OnOk};
+ghost use Rattle.std.specs.Prelude.{◌≡◌, ◌≢◌, ◌≤◌, ℕ, List, All, length, IfOk, IfErr, OnOk};
 ghost use Rattle.cs_base.specs.content.Bytes.{line_feed};
 ghost use Rattle.cs_base.specs.outside.Outside.{file_bytes};
 ghost use Rattle.cs_file.specs.Indexes.{HasAllBlocks};
 ghost use Rattle.cs_base.specs.declared.content.limits.TheConstants.{MAX_SCRIPT_LINE_BYTES};
 ghost use Rattle.cs_live.specs.Lives.{IsAccepted};
-ghost use Rattle.cs_model.specs.Parameters.{HoldsLimits};
 ghost use Rattle.cs_model_index.specs.Sections.{file_corpus, image_of};
-ghost use Rattle.cs_model_live.specs.LiveLines.{adds, asks, deletes, live_line};
+ghost use Rattle.cs_model_live.specs.LiveLines.{adds, deletes};
 ghost use Rattle.cs_model_live.specs.LiveStates.{LiveState, full_refusal};
-ghost use Rattle.cs_query.specs.RequestView.{asked};
-ghost use Rattle.cs_top.specs.Answering.{CameCounts, HasReply, HasText, came_of_answer};
+ghost use Rattle.cs_top.specs.Answering.{CameCounts};
 ghost use Rattle.cs_top.specs.CommandLine.{CausedBy};
 ghost use Rattle.cs_top.specs.LiveAnswering.{IsLiveAt, LiveOver, StaysIndex, Tells, TellsAddition};
 ghost use Rattle.cs_top.specs.LiveSteps.{LineText, LivePasses};
 ghost use Rattle.cs_top.specs.LiveTexts.{HasOutcomeText, IsLiveText};
 ghost use Rattle.cs_top.specs.Met.{wrote};
-ghost use Rattle.cs_top.specs.PutTexts.{CutsLineOf, HasTextBy, PutsLineOf};
+ghost use Rattle.cs_top.specs.PutTexts.{CutsLineOf, PutsLineOf};
 ghost use Rattle.cs_top.specs.ScriptEndings.{StopsAt};
 ghost use Rattle.cs_top.specs.Views.{IsSized, of_script, stop_ending};
-ghost use Rattle.cs_top.specs.declared.words.HitForm.TheVariants.{Titled};
 
+use super::asking::outcome_now;
 use super::outcomes::{Outcome, put_outcome};
 use crate::files::HeldFile;
 use crate::lines::{ScriptStop, line_fault};
 use crate::script::WhatCame;
-use crate::script::answers::{
-    Answer, changed_line, memory_line, put_answer, refusal_line, reply_line, text_or_memory,
-};
+use crate::script::answers::{memory_line, put_outcome_of};
 use crate::showing::Showing;
-use cs_base::{Doc, FileStore, Files, Sink};
-use cs_file::FetchFault;
-use cs_http::request;
+use cs_base::{Doc, Files, Sink};
 use cs_live::{AddFault, Live, RemoveFault};
 use cs_live_lines::{
     DocumentFault, Full, LiveLine, absent_line, added_document, change_line, doc_number, full_line,
     live_line, refused_line,
 };
-use cs_query::Request;
 use std::alloc::Global;
 
 /// Answers a line of a script, if it has bytes, and says what came of it. An error says how the script ends there.
@@ -76,8 +69,8 @@ pub(super) fn answer_line<F: Files, O: Sink>(
         LiveLine::Adds(document) => put_outcome(out, add(alloc, live, document)),
         LiveLine::Deletes(digits) => put_outcome(out, delete(alloc, live, digits)),
         LiveLine::Asks(params) => {
-            let answer = ask(alloc, live, index, files, params);
-            put_answer(out, &answer)
+            let outcome = outcome_now(alloc, live, index, files, params);
+            put_outcome_of(&Showing::titled(alloc), outcome, out)
         }
     }
 }
@@ -137,57 +130,5 @@ fn delete(alloc: Global, live: &mut Live, digits: &[u8]) -> Outcome
         },
         Err(RemoveFault::Absent) => Outcome::Line(absent_line()),
         Err(RemoveFault::Memory) => Outcome::Line(memory_line()),
-    }
-}
-
-// What is put for a line that asks.
-fn ask<F: Files>(
-    alloc: Global,
-    live: &mut Live,
-    index: HeldFile<'_>,
-    files: &mut F,
-    params: &[u8],
-) -> Answer
-    requires asks { live_line params.now ≡ asks params.now }
-    requires index_size { IsSized (F.held files.old) index }
-    requires fits { HasAllBlocks (file_bytes (F.held files.old) index.name.now) live.old.state.index }
-
-    ensures text { (b : List ℕ) (s : LiveState) → LiveOver live.old index.entry.name.now (F.held files.old) b s → HasText (LineText b s) params.now result }
-    ensures live { (b : List ℕ) (s : LiveState) → LiveOver live.old index.entry.name.now (F.held files.old) b s → LiveOver live.new index.entry.name.now (F.held files.new) b s }
-    ensures came { CameCounts (came_of_answer result) (F.faults files.old) (F.faults files.new) }
-    ensures texts { HasTextBy Titled result }
-    ensures stays { StaysIndex live.old live.new (F.held files.old) (F.held files.new) }
-{
-    match request(alloc, params) {
-        Ok(wanted) => ask_request(alloc, live, index, files, &wanted),
-        Err(fault) => text_or_memory(refusal_line(alloc, fault)),
-    }
-}
-
-// What is put for a line that is a request.
-fn ask_request<F: Files>(
-    alloc: Global,
-    live: &mut Live,
-    index: HeldFile<'_>,
-    files: &mut F,
-    wanted: &Request,
-) -> Answer
-    requires limits { HoldsLimits (asked wanted.now) }
-    requires index_size { IsSized (F.held files.old) index }
-    requires fits { HasAllBlocks (file_bytes (F.held files.old) index.name.now) live.old.state.index }
-
-    ensures text { (b : List ℕ) (s : LiveState) → LiveOver live.old index.entry.name.now (F.held files.old) b s → HasReply None s.corpus (asked wanted.now) result }
-    ensures live { (b : List ℕ) (s : LiveState) → LiveOver live.old index.entry.name.now (F.held files.old) b s → LiveOver live.new index.entry.name.now (F.held files.new) b s }
-    ensures came { CameCounts (came_of_answer result) (F.faults files.old) (F.faults files.new) }
-    ensures texts { HasTextBy Titled result }
-    ensures stays { StaysIndex live.old live.new (F.held files.old) (F.held files.new) }
-{
-    let showing = Showing::titled(alloc);
-    let mut store = FileStore::new(files, index.name, index.size);
-    match live.ask(alloc, &mut store, wanted) {
-        Ok((reply, _)) => text_or_memory(reply_line(&showing, &wanted.query, &reply)),
-        Err(FetchFault::Memory) => Answer::Memory,
-        Err(FetchFault::Read) => Answer::Read,
-        Err(FetchFault::Changed { rule, at }) => Answer::Changed(changed_line(alloc, rule, at)),
     }
 }

@@ -19,6 +19,7 @@ ghost use Rattle.cs_top.specs.ScriptRuns.{ReplayCaused};
 ghost use Rattle.cs_top.specs.Views.{IsDamage, IsOfIndex, IsSized, OfFile, ReadsFiles, ended, of_script, stop_ending};
 
 mod answers;
+mod asking;
 mod outcomes;
 
 use crate::ending::RunStop;

@@ -6,10 +6,8 @@ ghost use Rattle.cs_json.specs.FaultTexts.{fault_text};
 ghost use Rattle.cs_json.specs.declared.fault.Fault.TheVariants as faults;
 ghost use Rattle.cs_model.specs.Corpus.{Corpus};
 ghost use Rattle.cs_model.specs.Outputs.{memory_text, read_text};
-ghost use Rattle.cs_model.specs.Parameters.{HoldsLimits};
-ghost use Rattle.cs_query.specs.RequestView.{asked};
 ghost use Rattle.cs_query.specs.declared.request.ReqFault.{ReqFault};
-ghost use Rattle.cs_top.specs.Answering.{AnswersOver, CameOver, HasReply, HasText, IsThere, MayAnswer, StaysOver, bytes_there, came_of_answer, line_bytes};
+ghost use Rattle.cs_top.specs.Answering.{AnswersOver, CameOver, HasText, IsThere, MayAnswer, StaysOver, bytes_there, came_of_answer, line_bytes};
 ghost use Rattle.cs_top.specs.CommandLine.{CausedBy};
 ghost use Rattle.cs_top.specs.HitForms.{form_by, shown_reply};
 ghost use Rattle.cs_top.specs.declared.script.answers.Answer.TheVariants as answers;
@@ -18,20 +16,20 @@ ghost use Rattle.cs_top.specs.PutTexts.{CutsLine, HasTextBy, IsChangeLine, PutsL
 ghost use Rattle.cs_top.specs.ScriptEndings.{Passes, StopsAt};
 ghost use Rattle.cs_top.specs.Views.{of_script, stop_ending};
 
-use crate::answering::{IndexFile, respond};
+use crate::answering::{IndexFile, outcome_over};
 use crate::lines::{ScriptStop, line_fault};
 use crate::script::WhatCame;
 use crate::showing::Showing;
 use cs_base::{Files, Memory, Query, Sink};
-use cs_engine::{AskFault, Engine};
-use cs_http::request;
+use cs_engine::Engine;
+use cs_hub::RequestOutcome;
 use cs_json::{Fault, fault_bytes};
-use cs_query::{Reply, ReqFault, Request};
+use cs_query::{Reply, ReqFault};
 use std::alloc::Global;
 
 /// What is put for a line that is read, with its line ending.
 #[derive(Drop)]
-pub(crate) enum Answer {
+enum Answer {
     /// Its text.
     Text(Vec<u8>),
     /// The text of want of memory.
@@ -84,8 +82,8 @@ pub(crate) fn answer_line<F: Files, O: Sink>(
     put_answer(out, &answer)
 }
 
-/// Puts an answer, and says what came of the line.
-pub(crate) fn put_answer<O: Sink>(out: &mut O, answer: &Answer) -> Result<WhatCame, ScriptStop>
+// Puts an answer, and says what came of the line.
+fn put_answer<O: Sink>(out: &mut O, answer: &Answer) -> Result<WhatCame, ScriptStop>
     ensures ok { OnOk result (Grew (O.written out.old) (line_bytes answer.now) (O.written out.new)) }
     ensures came { IfOk result (λ c. c ≡ came_of_answer answer.now) }
     ensures err { OnErr result (GrewByPrefix (O.written out.old) (line_bytes answer.now) (O.written out.new)) }
@@ -144,43 +142,40 @@ fn answer_params<F: Files>(
     ensures came { CameOver engine.old file.old (F.held files.old) (came_of_answer result) (F.faults files.old) (F.faults files.new) }
     ensures text { (k : Corpus) → AnswersOver engine.old file.old (F.held files.old) k → HasText (MayAnswer showing.now file.old k) line.now result }
     ensures texts { HasTextBy (form_by showing.now) result }
-    ensures over { StaysOver engine.old engine.new file.old file.new (F.held files.old) (F.held files.new) }
-{
-    match request(showing.alloc, line) {
-        Ok(wanted) => answer_request(showing, engine, file, files, &wanted),
-        Err(fault) => text_or_memory(refusal_line(showing.alloc, fault)),
-    }
-}
-
-// What is put for a line that is a request.
-fn answer_request<F: Files>(
-    showing: &Showing<'_>,
-    engine: &mut Engine,
-    file: &mut IndexFile<'_>,
-    files: &mut F,
-    wanted: &Request,
-) -> Answer
-    requires limits { HoldsLimits (asked wanted.now) }
-    requires there { IsThere engine.old.index file.old (F.held files.old) }
-
-    ensures came { CameOver engine.old file.old (F.held files.old) (came_of_answer result) (F.faults files.old) (F.faults files.new) }
-    ensures text { (k : Corpus) → AnswersOver engine.old file.old (F.held files.old) k → HasReply showing.now k (asked wanted.now) result }
-    ensures texts { HasTextBy (form_by showing.now) result }
     ensures changed { IsChangeLine engine.old.index (bytes_there file.old (F.held files.old)) result }
     ensures over { StaysOver engine.old engine.new file.old file.new (F.held files.old) (F.held files.new) }
 {
-    match respond(showing.alloc, engine, file, files, wanted) {
-        Ok((reply, _)) => text_or_memory(reply_line(showing, &wanted.query, &reply)),
-        Err(AskFault::Memory) => Answer::Memory,
-        Err(AskFault::Read) => Answer::Read,
-        Err(AskFault::Changed { rule, at }) => {
-            Answer::Changed(changed_line(showing.alloc, rule, at))
+    answer_by(showing, outcome_over(showing.alloc, engine, file, files, line))
+}
+
+/// Puts what came of parameters for the line that has them, and says what came of the line.
+pub(crate) fn put_outcome_of<O: Sink>(
+    showing: &Showing<'_>,
+    outcome: RequestOutcome,
+    out: &mut O,
+) -> Result<WhatCame, ScriptStop> {
+    let answer = answer_by(showing, outcome);
+    put_answer(out, &answer)
+}
+
+// What is put where this came of parameters.
+fn answer_by(showing: &Showing<'_>, outcome: RequestOutcome) -> Answer {
+    match outcome {
+        RequestOutcome::Refused(fault) => text_or_memory(refusal_line(showing.alloc, fault)),
+        RequestOutcome::Replied(wanted, reply) => {
+            text_or_memory(reply_line(showing, &wanted.query, &reply))
         }
+        RequestOutcome::Read => Answer::Read,
+        RequestOutcome::Changed { rule, at } => Answer::Changed(changed_line(
+            showing.alloc,
+            rule,
+            at,
+        )),
+        RequestOutcome::Memory => Answer::Memory,
     }
 }
 
-/// A text, or that of want of memory where there is none for it.
-pub(crate) fn text_or_memory(line: Result<Vec<u8>, Memory>) -> Answer
+fn text_or_memory(line: Result<Vec<u8>, Memory>) -> Answer
     ensures text { IfOk line (λ b. result ≡ answers.Text b) }
     ensures memory { OnErr line (result ≡ answers.Memory) }
 {
@@ -190,8 +185,8 @@ pub(crate) fn text_or_memory(line: Result<Vec<u8>, Memory>) -> Answer
     }
 }
 
-/// The text of a reply to a query, and its line ending.
-pub(crate) fn reply_line(showing: &Showing<'_>, query: &Query, reply: &Reply) -> Result<Vec<u8>, Memory>
+// The text of a reply to a query, and its line ending.
+fn reply_line(showing: &Showing<'_>, query: &Query, reply: &Reply) -> Result<Vec<u8>, Memory>
     ensures { IfOk result (λ b. b.items ≡ shown_reply showing.now query.now reply.now ++ 10 ∷ []) }
 {
     let mut bytes = showing.reply_bytes(query, reply)?;
@@ -199,8 +194,8 @@ pub(crate) fn reply_line(showing: &Showing<'_>, query: &Query, reply: &Reply) ->
     Ok(bytes)
 }
 
-/// The text of a changed index file, and its line ending; None where there is no memory for it.
-pub(crate) fn changed_line(alloc: Global, rule: u8, at: u64) -> Option<Vec<u8>>
+// The text of a changed index file, and its line ending; None where there is no memory for it.
+fn changed_line(alloc: Global, rule: u8, at: u64) -> Option<Vec<u8>>
     ensures { ForSome result (λ b. b.items ≡ fault_text (faults.Changed rule at) ++ 10 ∷ []) }
 {
     let Ok(mut bytes) = fault_bytes(alloc, &Fault::Changed { rule, at }) else {
@@ -212,8 +207,8 @@ pub(crate) fn changed_line(alloc: Global, rule: u8, at: u64) -> Option<Vec<u8>>
     }
 }
 
-/// The text of a refusal, and its line ending. Want of memory isn't one.
-pub(crate) fn refusal_line(alloc: Global, fault: ReqFault) -> Result<Vec<u8>, Memory>
+// The text of a refusal, and its line ending. Want of memory isn't one.
+fn refusal_line(alloc: Global, fault: ReqFault) -> Result<Vec<u8>, Memory>
     ensures text { IfOk result (λ b. b.items ≡ fault_text (faults.Refused fault) ++ 10 ∷ []) }
     ensures refused { OnOk result (fault ≢ ReqFault.Memory) }
 {

@@ -88,9 +88,21 @@ fn brought(alloc: Global, way: Way, a: &Cols, b: &Cols) -> Result<Cols, Memory>
     match way {
         Way::Follow => follow(alloc, a, b),
         Way::Near => near(alloc, a, b),
-        Way::Unite => unite(alloc, a, b),
+        Way::Unite => united(alloc, a, b),
         Way::KeepDocs => keep_docs(alloc, b, docs_of(alloc, a)?.as_slice()),
     }
+}
+
+// The union of both lists and the first once more.
+fn united(alloc: Global, a: &Cols, b: &Cols) -> Result<Cols, Memory>
+    requires a { AreSorted a.now.posts }
+    requires b { AreSorted b.now.posts }
+{
+    let mut lists = Vec::new(alloc);
+    lists.push(a.copy(alloc)?)?;
+    lists.push(b.copy(alloc)?)?;
+    lists.push(a.copy(alloc)?)?;
+    unite(alloc, &lists)
 }
 
 // Documents with their scores, in order.

@@ -74,7 +74,7 @@ add_rows-requires-clause-even g c = ap length c.deref-in-loop-k-2.ensures.value 
 
 pub add_rows-requires-clause-known : goal.add_rows-requires-clause-known
 add_rows-requires-clause-known g c =
-    subst (λ n. All (λ d. d < n) c.deref-in-loop-k.result.now) (sym c.requires.listed.long)
+    subst (λ n. All (λ d. d < n) c.deref-in-loop-k.result.now) (sym (c.requires.listed.long ∙ c.requires.opened.source.long))
     (subst (All (λ d. d < (g.I.Source.view c.args.index.now).docs)) (sym c.deref-in-loop-k.ensures.value) c.in_ok-fetch_scored.ensures.docs)
 
 pub raise_rows-requires-clause-known : goal.raise_rows-requires-clause-known
@@ -82,7 +82,7 @@ raise_rows-requires-clause-known g c =
     subst (λ n. All (λ d. d < n) c.fetch_scored.new.into.docs.items) (sym c.loop-k.invariant.len) c.in_ok-fetch_scored.ensures.docs
 
 pub raise_rows-requires-clause-long : goal.raise_rows-requires-clause-long
-raise_rows-requires-clause-long g c = c.requires.listed.long ∙ sym c.loop-k.invariant.len
+raise_rows-requires-clause-long g c = c.requires.listed.long ∙ c.requires.opened.source.long ∙ sym c.loop-k.invariant.len
 
 pub returns-in_err-fetch_scored-clause-reads : goal.returns-in_err-fetch_scored-clause-reads
 returns-in_err-fetch_scored-clause-reads g c = rest_stops c.loop-k.invariant.walk c.loop-k-test.true c.fetch_scored.ensures.reads
@@ -136,14 +136,15 @@ returns-clause-reads g c = rest_ends c.loop-k.invariant.walk c.loop-k.auto.k-end
 -- ---- the rows in memory
 pub count_chosen-requires-clause-known : goal.count_chosen-requires-clause-known
 count_chosen-requires-clause-known g c =
-    held_known (g.I.Source.view c.args.index.now) c.requires.opened.source c.held-held.result.now c.held-held.ensures c.requires.listed.long
+    held_known (g.I.Source.view c.args.index.now) c.requires.opened.source c.held-held.result.now c.held-held.ensures
+    (c.requires.listed.long ∙ c.requires.opened.source.long)
 
 pub raise_held-requires-clause-known : goal.raise_held-requires-clause-known
 raise_held-requires-clause-known g c =
     held_known (g.I.Source.view c.args.index.now) c.requires.opened.source c.held-held.result.now c.held-held.ensures c.loop-k.invariant.len
 
 pub raise_held-requires-clause-long : goal.raise_held-requires-clause-long
-raise_held-requires-clause-long g c = c.requires.listed.long ∙ sym c.loop-k.invariant.len
+raise_held-requires-clause-long g c = c.requires.listed.long ∙ c.requires.opened.source.long ∙ sym c.loop-k.invariant.len
 
 pub returns-clause-told : goal.returns-clause-told
 returns-clause-told g c b is stands =

@@ -1,10 +1,8 @@
-use Rattle.std.proofs.Common.{◌≡◌, ◌<◌, [], length, refl, sym, ap, subst, ◌∙◌, arith}
+use Rattle.std.proofs.Common.{◌≡◌, [], length, refl, sym, ap, subst, ◌∙◌, arith}
 use Rattle.std.specs.Prelude.{All, filter}
 use Rattle.std.proofs.lemmas.List.Elements.{All-nil, All-push, All-weaker}
 use Rattle.cs_base.specs.content.Orders.{AreDocs, AreSorted}
 use Rattle.cs_cols.specs.declared.cols.Cols.{Cols}
-use Rattle.cs_base.specs.declared.content.doc.Post.{Post}
-use Rattle.cs_base.specs.declared.content.query.Part.{out-Part}
 use Rattle.cs_base.specs.declared.content.query.Linked.{out-Linked}
 use Rattle.cs_join.specs.Shared.{shares_word, shared}
 use Rattle.cs_model.specs.Answers.{begins}
@@ -12,14 +10,14 @@ use Rattle.cs_model.specs.Collection.{named}
 use Rattle.cs_engine.specs.Asking.{division}
 use Rattle.cs_engine.specs.IndexReading.{AreWithin}
 use Rattle.cs_engine.specs.Sources.{seen}
-use Rattle.cs_engine.specs.Steps.{docs_after}
-use Rattle.cs_engine.specs.Stocked.{base_docs, is_between}
+use Rattle.cs_engine.specs.Stocked.{is_between, present_docs}
 use Rattle.cs_engine.proofs.PlainParts.{exact_words, found_between, join_reads, prefix_words, words_told}
 use Rattle.cs_engine.proofs.AlternativesLemmas.{flat, flat_more, lists_begin, lists_end, lists_go_on, lists_within}
 use Rattle.cs_engine.proofs.EvaluationLemmas.{docs_begin, docs_go_on, docs_end, linked_reads, met_part-is, met_query-is}
 use Rattle.cs_engine.proofs.EvaluationLemmas.{chain_goes_on, chain_ends, chain_stops, linked_within, joined_rows, none_shared}
 use Rattle.cs_engine.proofs.RowsInRange.{kept_within, none_within}
-use Rattle.cs_engine.proofs.PartSteps.{base_sorted, known_docs}
+use Rattle.cs_engine.proofs.PartSteps.{base_sorted}
+use Rattle.cs_engine.proofs.PresentLemmas.{docs_ascend}
 use Rattle.cs_engine.proofs.WalkLemmas.{list_begins, list_goes_on, list_stops, within_more}
 use Rattle.cs_engine.proofs.evaluation.+evaluation.Goals as goal
 
@@ -29,15 +27,9 @@ docs_of_hits-loop-part-init g t c =
     record {
       walk = list_begins (met_query-is (division (g.I.Source.view c.args.index.now).index) c.args.query.now) c.as_slice-part-items.ensures;
       base = tt;
-      told = λ b is stands. docs_begin ((g.I.Source.view c.args.index.now).stock b) c.as_slice-part-items.result.now (g.I.Source.view c.args.index.now).docs
-          (c.requires.opened.source.told b stands).docs;
+      told = λ b is stands. docs_begin ((g.I.Source.view c.args.index.now).stock b) c.as_slice-part-items.result.now
+          (present_docs (g.I.Source.view c.args.index.now).present) (c.requires.opened.source.told b stands).docs;
     }
-
-pub docs_of_hits-agreeing-requires-clause-known : goal.docs_of_hits-agreeing-requires-clause-known
-docs_of_hits-agreeing-requires-clause-known g t c =
-    let docs = c.docs.ensures in
-    subst (λ m. All (λ (p : Post). p.doc < m) c.in_ok-rows.rows.posts) (sym docs)
-    (known_docs (seen (g.I.Source.view c.args.index.now)) c.in_ok-rows.rows.posts c.in_ok-rows.ensures.within)
 
 pub docs_of_hits-loop-part-preserved : goal.docs_of_hits-loop-part-preserved
 docs_of_hits-loop-part-preserved g t c =
@@ -46,24 +38,23 @@ docs_of_hits-loop-part-preserved g t c =
     record {
       walk = list_goes_on inv.walk c.loop-part-test.true c.part-item.is c.in_ok-rows.ensures.store c.in_ok-rows.ensures.reads;
       base = c.in_ok-hits.ensures.base;
-      told = λ b is stands. docs_go_on ((g.I.Source.view c.args.index.now).stock b) c.as_slice-part-items.result.now
-          (g.I.Source.view c.args.index.now).docs c.loop-part.part-index x c.loop-part-test.true
+      told = λ b is stands.
+          let told = c.requires.opened.source.told b stands in
+          docs_go_on ((g.I.Source.view c.args.index.now).stock b) c.as_slice-part-items.result.now told.stocked
+          (present_docs (g.I.Source.view c.args.index.now).present) told.docs c.loop-part.part-index x c.loop-part-test.true
           c.part-item.is c.loop-part.hits c.in_ok-hits.hits c.in_ok-rows.rows.posts
-          (inv.told b is stands) (c.in_ok-rows.ensures.told b (inv.walk.store.bytes ∙ is) stands)
-          (subst (λ m. base_docs m c.in_ok-hits.hits ≡ docs_after m c.loop-part.hits (out-Part x).excluded c.in_ok-rows.rows.posts)
-          c.docs.ensures c.in_ok-hits.ensures.docs);
+          (inv.told b is stands) (c.in_ok-rows.ensures.told b (inv.walk.store.bytes ∙ is) stands) c.in_ok-hits.ensures.docs;
     }
 
 pub docs_of_hits-returns-clause-told : goal.docs_of_hits-returns-clause-told
 docs_of_hits-returns-clause-told g t c b is stands =
-    let docs = c.docs-2.ensures in
-    c.in_ok-docs.ensures ∙ ap (λ m. base_docs m c.loop-part.hits) docs
-    ∙ docs_end ((g.I.Source.view c.args.index.now).stock b) c.as_slice-part-items.result.now c.args.query.now (g.I.Source.view c.args.index.now).docs
-    c.loop-part.part-index c.loop-part.hits
+    c.in_ok-docs.ensures
+    ∙ docs_end ((g.I.Source.view c.args.index.now).stock b) c.as_slice-part-items.result.now c.args.query.now
+    (present_docs (g.I.Source.view c.args.index.now).present) c.loop-part.part-index c.loop-part.hits
     c.as_slice-part-items.ensures (omega (arith, c.loop-part-test.false)) (c.loop-part.invariant.told b is stands)
 
 pub docs_of_hits-returns-clause-sorted : goal.docs_of_hits-returns-clause-sorted
-docs_of_hits-returns-clause-sorted g t c = subst AreDocs (sym c.in_ok-docs.ensures) (base_sorted _ c.loop-part.hits c.loop-part.invariant.base)
+docs_of_hits-returns-clause-sorted g t c = subst AreDocs (sym c.in_ok-docs.ensures) (base_sorted _ (docs_ascend (g.I.Source.view c.args.index.now).present) c.loop-part.hits c.loop-part.invariant.base)
 
 -- ---- atoms
 pub rows_of_atom-returns-in-Prefix-clause-told : goal.rows_of_atom-returns-in-Prefix-clause-told

@@ -5,6 +5,7 @@ use Rattle.cs_rank.specs.DocScores.{IsBase}
 use Rattle.cs_engine.specs.Asking.{division}
 use Rattle.cs_engine.specs.IndexReading.{AreWithin, WhereStood}
 use Rattle.cs_engine.specs.Sources.{seen}
+use Rattle.cs_engine.specs.Stocked.{present_docs}
 use Rattle.cs_engine.proofs.AlternativesLemmas.{ListsSoFar, flat}
 use Rattle.cs_engine.proofs.EvaluationLemmas.{DocsSoFar, LinkedSoFar}
 use Rattle.cs_engine.proofs.WalkLemmas.{ListWalk}
@@ -16,7 +17,7 @@ invariant-docs_of_hits-loop-part g l = let v = division (g.I.Source.view l.index
       (g.I.Source.view l.index).index (met_of_part v) l.part-items (met_of_query v l.query) l.fn.store l.store l.part-index;
   base : IsBase l.hits;
   told : WhereStood (g.S.Store.bytes l.fn.store) (g.I.Source.view l.index).index
-      (λ b. DocsSoFar ((g.I.Source.view l.index).stock b) l.part-items (g.I.Source.view l.index).docs l.part-index l.hits);
+      (λ b. DocsSoFar ((g.I.Source.view l.index).stock b) l.part-items (present_docs (g.I.Source.view l.index).present) l.part-index l.hits);
 }
 
 abbrev pub invariant-rows_of_part-loop-chain : goal.invariant-rows_of_part-loop-chain

@@ -5,7 +5,7 @@ use Rattle.cs_base.specs.declared.content.doc.Post.{Post}
 use Rattle.cs_base.specs.declared.content.doc.Scored.{Scored}
 use Rattle.cs_base.specs.declared.content.limits.TheConstants.{MAX_PARTS}
 use Rattle.cs_base.specs.declared.content.scores.TheConstants.{MAX_ROW_SCORE}
-use Rattle.cs_engine.specs.Stocked.{base_docs}
+use Rattle.cs_engine.specs.Stocked.{base_docs, present_docs}
 use Rattle.cs_engine.specs.Steps.{IsBaseOf}
 use Rattle.cs_engine.proofs.FacetLemmas.{chosen_facet, chosen_kept, facet_counts, known_docs, known_kept}
 use Rattle.cs_engine.proofs.FoundLemmas.{docs_rise}
@@ -19,7 +19,7 @@ keep_docs-requires-clause-docs_sorted c =
 pub add-requires-clause-known : goal.add-requires-clause-known
 add-requires-clause-known c =
     subst (λ ds. All (λ d. d < length c.args.listed.now) ds) (sym (c.docs.ensures ∙ ap (map (λ (p : Post). p.doc)) (c.in_ok-found.ensures.ok)))
-    (known_kept c.requires.index c.args.rows.now.posts c.deref.result.now c.requires.within c.requires.listed.long)
+    (known_kept c.requires.index c.args.rows.now.posts c.deref.result.now c.requires.within (c.requires.listed.long ∙ c.requires.numbers))
 
 pub returns-then-len-clause-told : goal.returns-then-len-clause-told
 returns-then-len-clause-told c all are =
@@ -29,17 +29,17 @@ returns-then-len-clause-told c all are =
     let i = c.requires.index in
     let rows = c.in_ok-found.found.posts in
     let docs_are = c.deref.ensures.value ∙ c.in_ok-docs.ensures ∙ ap (map (λ (h : Scored). h.doc)) c.as_slice.ensures
-    ∙ ap (base_docs i.docs) (sym c.in-Listed.is) in
+    ∙ ap (base_docs (present_docs c.requires.present)) (sym c.in-Listed.is) in
     facet_counts i c.requires.few_docs c.in_ok-counts.ensures.low
     c.in_ok-counts.ensures.high c.args.listed.now posts rows c.requires.within
-    (chosen_kept lo hi c.args.listed.now posts all are i c.args.base.now c.deref.result.now rows c.requires.listed c.requires.within docs_are
+    (chosen_kept lo hi c.args.listed.now posts all are i c.requires.present c.requires.numbers c.args.base.now c.deref.result.now rows c.requires.listed c.requires.within docs_are
     c.in_ok-found.ensures.ok)
     (λ few. c.add.ensures.counted rows c.docs.ensures c.words.ensures [] few c.in_ok-counts.ensures.none)
 
 pub add-requires-2-clause-known : goal.add-requires-2-clause-known
 add-requires-2-clause-known c =
     subst (λ ds. All (λ d. d < length c.args.listed.now) ds) (sym c.docs-2.ensures)
-    (known_docs c.requires.index c.args.rows.now.posts c.requires.within c.requires.listed.long)
+    (known_docs c.requires.index c.args.rows.now.posts c.requires.within (c.requires.listed.long ∙ c.requires.numbers))
 
 pub returns-clause-told : goal.returns-clause-told
 returns-clause-told c all are =

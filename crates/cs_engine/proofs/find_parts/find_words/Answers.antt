@@ -20,7 +20,7 @@ use Rattle.cs_engine.proofs.find_parts.find_words.Goals as goal
 pub many_chosen-requires : goal.many_chosen-requires
 many_chosen-requires g c =
     held_known (g.I.Source.view c.args.over.index.now) c.requires.over.opened.source c.held-held.result.now c.held-held.ensures
-    (ap length c.deref-marks.ensures.value ∙ c.in_ok-listed.ensures.long ∙ c.docs.ensures)
+    (ap length c.deref-marks.ensures.value ∙ c.in_ok-listed.ensures.long ∙ c.requires.over.opened.source.long)
 
 pub pack_chosen-requires-clause-packed : goal.pack_chosen-requires-clause-packed
 pack_chosen-requires-clause-packed g c =
@@ -30,7 +30,7 @@ pack_chosen-requires-clause-packed g c =
 pub pack_chosen-requires-clause-known : goal.pack_chosen-requires-clause-known
 pack_chosen-requires-clause-known g c =
     held_known (g.I.Source.view c.args.over.index.now) c.requires.over.opened.source c.held-held.result.now c.held-held.ensures
-    (ap length c.deref-marks.ensures.value ∙ c.in_ok-listed.ensures.long ∙ c.docs.ensures)
+    (ap length c.deref-marks.ensures.value ∙ c.in_ok-listed.ensures.long ∙ c.requires.over.opened.source.long)
 
 -- ---- too many rows
 pub returns-then-are_more-clause-told : goal.returns-then-are_more-clause-told
@@ -43,7 +43,7 @@ returns-then-are_more-clause-told g c b is stands by p =
     let had = c.in_ok-gathered.ensures.gathered in
     let h = had.keys in
     let t = is_chosen lo hi listed in
-    let has = listed_in (seen v) c.args.hits c.in_ok-listed.listed.items listed c.docs.ensures c.in_ok-listed.ensures c.deref-marks.ensures.value in
+    let has = listed_in c.args.hits c.in_ok-listed.listed.items listed c.in_ok-listed.ensures c.deref-marks.ensures.value in
     let more = run_longer t (v.blocks b) from.first from.next from.last had.upto in
     let over = ltb-true _ _ (sym c.are_more.ensures ∙ c.if-are_more.true) in
     record {
@@ -100,7 +100,7 @@ found_with-requires g c =
     let listed = c.deref-marks.result.now in
     let held = c.held-held.result.now in
     let old = c.in_ok-gathered.gathered.keys.items in
-    let has = listed_in (seen v) c.args.hits c.in_ok-listed.listed.items listed c.docs.ensures c.in_ok-listed.ensures c.deref-marks.ensures.value in
+    let has = listed_in c.args.hits c.in_ok-listed.listed.items listed c.in_ok-listed.ensures c.deref-marks.ensures.value in
     let added = c.in_ok-pack_chosen.ensures ∙ ap (λ (w : Weights). old ++ map (key_of w) (filter (is_chosen lo hi listed) held)) c.weights-weights.ensures in
     let h = with_held v source (g.S.Store.bytes c.args.store.now) lo hi listed c.in_ok-gathered.gathered held c.pack_chosen.new.keys.items
     c.in_ok-gathered.ensures.gathered c.held-held.ensures added in
@@ -110,7 +110,7 @@ found_with-requires g c =
       own = record {
         index = source;
         parts = c.requires.over.parts;
-        fits = entry_fits v c.args.over.query.now c.args.hits lo hi c.requires.asks listed has rows
+        fits = entry_fits v c.args.over.query.now c.args.hits lo hi c.requires.asks listed has source.long rows
             (ordered_within (seen v) h.rows rows h.within o) (ordered_passed lo hi listed h.rows rows h.passed o);
       };
     }
@@ -124,7 +124,7 @@ returns-clause-told g c b is stands by =
     let listed = c.deref-marks.result.now in
     let held = c.held-held.result.now in
     let old = c.in_ok-gathered.gathered.keys.items in
-    let has = listed_in (seen v) c.args.hits c.in_ok-listed.listed.items listed c.docs.ensures c.in_ok-listed.ensures c.deref-marks.ensures.value in
+    let has = listed_in c.args.hits c.in_ok-listed.listed.items listed c.in_ok-listed.ensures c.deref-marks.ensures.value in
     let had = c.in_ok-gathered.ensures.gathered in
     let under = ltb-false _ _ (sym c.are_more.ensures ∙ c.if-are_more.false) in
     let few : length old ≤ c.saturating_sub-room.result = omega (arith, under, c.len.ensures) in

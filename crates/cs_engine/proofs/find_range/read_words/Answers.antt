@@ -1,9 +1,6 @@
-use Rattle.std.proofs.Common.{sym, subst, arith}
-use Rattle.cs_base.specs.declared.content.doc.Base.TheVariants as base
-use Rattle.cs_engine.specs.Blockwise.{HasFound}
+use Rattle.std.proofs.Common.{arith}
 use Rattle.cs_engine.proofs.RowsInRange.{met_count}
 use Rattle.cs_engine.proofs.WalkLemmas.{within_more}
-use Rattle.cs_engine.proofs.WideLemmas.{whole_range}
 use Rattle.cs_engine.proofs.find_range.read_words.Goals as goal
 
 pub found_behind-requires-clause-gathered : goal.found_behind-requires-clause-gathered
@@ -24,9 +21,3 @@ returns-clause-reads g c =
     let many = met_count (g.I.Source.view c.args.index.now).index.heads ((g.I.Source.view c.args.index.now).before c.args.words.0)
     ((g.I.Source.view c.args.index.now).before c.args.words.1) none.result.first none.result.last met in
     within_more c.found_behind.ensures.reads (omega (arith, many, none.ensures.none))
-
-pub returns-clause-told : goal.returns-clause-told
-returns-clause-told g c b is stands =
-    subst (λ rows. HasFound base.All rows c.in_ok-found.found.0 c.in_ok-found.found.1)
-    (sym (whole_range b (g.I.Source.view c.args.index.now) stands c.requires.opened.source c.args.words.0 c.args.words.1))
-    (c.in_ok-found.ensures.told b is stands)

@@ -3,7 +3,7 @@ use Rattle.std.specs.Prelude.{filter}
 use Rattle.cs_base.specs.declared.content.doc.Base.TheVariants as base
 use Rattle.cs_base.specs.declared.content.limits.TheConstants.{MAX_PARTS}
 use Rattle.cs_base.specs.declared.content.scores.TheConstants.{MAX_ROW_SCORE}
-use Rattle.cs_engine.specs.Counting.{AreListed, in_listed}
+use Rattle.cs_engine.specs.Counting.{in_listed}
 use Rattle.cs_engine.specs.Loose.{HasBestScores, hits_in}
 use Rattle.cs_engine.specs.Steps.{IsBaseOf}
 use Rattle.cs_engine.specs.Stocked.{is_between}
@@ -13,7 +13,7 @@ use Rattle.cs_engine.proofs.BehindLemmas.{scored_are}
 use Rattle.cs_engine.proofs.scored.hits_by_words.Goals as goal
 
 pub best_in_blocks-requires-clause-listed : goal.best_in_blocks-requires-clause-listed
-best_in_blocks-requires-clause-listed g c = ap length c.deref.ensures.value ∙ c.in_ok-listed.ensures.long ∙ c.docs.ensures
+best_in_blocks-requires-clause-listed g c = ap length c.deref.ensures.value ∙ c.in_ok-listed.ensures.long ∙ c.requires.opened.source.long
 
 pub scored_in-requires-clause-base : goal.scored_in-requires-clause-base
 scored_in-requires-clause-base g c = base_in (g.I.Source.view c.args.index.now).docs (MAX_ROW_SCORE * MAX_PARTS) c.args.hits.now (omega arith) c.requires.base
@@ -24,12 +24,11 @@ returns-clause-told g c b is stands =
     let hi = c.args.words.1 in
     let hits = c.args.hits.now in
     let listed = c.in_ok-listed.listed.items in
-    let lists = subst (λ n. AreListed n hits listed) (c.docs.ensures) c.in_ok-listed.ensures in
     let best = c.in_ok-best.best.items in
     let has = subst (λ l. HasBestScores (filter (in_listed l) (filter (is_between lo hi) ((g.I.Source.view c.args.index.now).stock b).posts)) best)
     c.deref.ensures.value
     (c.in_ok-best.ensures.told b is stands) in
-    scored_are b (g.I.Source.view c.args.index.now) stands c.requires.opened.source lo hi listed hits lists best c.in_ok-scored.scored
+    scored_are b (g.I.Source.view c.args.index.now) stands c.requires.opened.source lo hi listed hits c.in_ok-listed.ensures best c.in_ok-scored.scored
     c.in_ok-best.ensures.long has
     (c.in_ok-scored.ensures.scored ∙ ap (λ l. map (with_base hits) (hits_in 0 l)) c.deref-2.ensures.value)
 

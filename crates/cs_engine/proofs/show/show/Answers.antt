@@ -18,23 +18,20 @@ shown_words-requires-clause-known g c = subst (All (λ (w : Completion). w.word 
 pub shown_hits-requires-clause-known : goal.shown_hits-requires-clause-known
 shown_hits-requires-clause-known g c =
     let v = (g.I.Source.view c.args.over.index.now) in
-    let docs = c.docs.ensures in
     let r = c.args.over.request.now in
-    let shown = shown_in v c.requires.opened.source _ c.args.hits.now _ _ r.offset r.hits docs refl c.requires.base c.in_ok-first.first
+    let shown = shown_in v c.requires.opened.source _ c.args.hits.now _ r.offset r.hits refl c.requires.base c.in_ok-first.first
     c.in_ok-first.ensures.first in
     subst (All (λ (h : Scored). h.doc < v.docs)) (sym c.as_slice-2.ensures) shown
 
 pub overflow_cast-result : goal.overflow_cast-result
 overflow_cast-result g c =
-    let docs = c.docs.ensures in
-    let few = hits_few (g.I.Source.view c.args.over.index.now) c.requires.opened.source _ c.args.hits.now _ _ docs refl c.requires.base in
+    let few = hits_few (g.I.Source.view c.args.over.index.now) c.requires.opened.source _ c.args.hits.now _ refl c.requires.base in
     omega (arith, c.in_ok-first.ensures.total, few)
 
 pub returns-clause-told : goal.returns-clause-told
 returns-clause-told g c b is stands over found =
     let v = (g.I.Source.view c.args.over.index.now) in
     let r = asked c.args.over.request.now in
-    let docs = c.docs.ensures in
     let posts = found.posts in
     let shown = words_as_shown b v stands c.requires.opened.source posts found.within _ refl r.completions c.args.table.now.first found.first
     c.in_ok-shown.shown
@@ -43,4 +40,4 @@ returns-clause-told g c b is stands over found =
     ∙ ap (map (hit_shown (corpus_in (v.stock b)))) (c.as_slice-2.ensures ∙ c.in_ok-first.ensures.first) in
     reply_told b v stands c.requires.opened.source r c.args.hits.now posts found.found found.within c.in_ok-shown.shown c.in_ok-facets.facets
     c.in_ok-shown_first.shown_first c.args.table.now.total c.in_ok-first.total _
-    shown (c.in_ok-facets.ensures.told b is stands over) hits found.total c.in_ok-first.ensures.total _ docs refl
+    shown (c.in_ok-facets.ensures.told b is stands over) hits found.total c.in_ok-first.ensures.total refl

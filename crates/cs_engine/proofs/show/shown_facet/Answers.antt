@@ -22,6 +22,8 @@ count_facet-requires g c =
     let source = c.requires.opened.source in
     record {
       index = seen (g.I.Source.view c.args.over.index.now);
+      present = (g.I.Source.view c.args.over.index.now).present;
+      numbers = source.long;
       few_docs = source.few_docs;
       few_words = source.few_words;
       ordered = c.in_ok-words.ensures.ordered;

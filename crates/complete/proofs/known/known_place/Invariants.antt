@@ -1,5 +1,0 @@
-use Rattle.complete.proofs.KnownPlaces.{NoneBefore}
-use Rattle.complete.proofs.known.known_place.Given as goal
-
-abbrev pub invariant-loop-i : goal.invariant-loop-i
-invariant-loop-i g l = NoneBefore l.known l.name l.i

@@ -1,0 +1,17 @@
+-- What an error of the system says.
+--
+-- Source: this engine's own; the kinds of errors are the toolchain's.
+--
+--   SaysAbsent kind    an error of this kind says that no file has the name
+--   SaysUnsynced kind  an error of this kind says that a folder can't be synced at all
+use Rattle.std.specs.Prelude.{◌≡◌, ◌⊎◌}
+use Rattle.std.specs.declared.io.ErrorKind.{ErrorKind}
+use Rattle.std.specs.declared.io.ErrorKind.TheVariants.{NotFound, NotADirectory, InvalidInput, Unsupported, PermissionDenied}
+
+-- no file has the name, or one of the folders that it names is none
+abbrev pub SaysAbsent : ErrorKind → Type 0
+SaysAbsent kind = (kind ≡ NotFound) ⊎ (kind ≡ NotADirectory)
+
+-- the file system syncs no folders, or this one may not be read
+abbrev pub SaysUnsynced : ErrorKind → Type 0
+SaysUnsynced kind = (kind ≡ InvalidInput) ⊎ (kind ≡ Unsupported) ⊎ (kind ≡ PermissionDenied)
