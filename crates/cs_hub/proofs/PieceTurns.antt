@@ -5,7 +5,7 @@
 --   stays_none, stays_both                             what is kept of what answers requests
 --   leaves_none, leaves_both                           what is kept of an engine and its store
 --   received, stopped                                  a piece, by whether the connection goes on
-use Rattle.std.proofs.Common.{◌≡◌, inl, inr, ℕ, ◌+◌, ◌-◌, Bool, true, false, List, [], ◌∷◌, ◌++◌, length, take, drop, refl, sym, ◌∙◌, ap, subst}
+use Rattle.std.proofs.Common.{◌≡◌, inl, inr, ℕ, ◌+◌, ◌-◌, Bool, false, List, [], ◌∷◌, ◌++◌, length, take, drop, refl, sym, ◌∙◌, ap, subst}
 use Rattle.std.proofs.Common.{append_assoc, append-nil, arith}
 use Rattle.std.specs.Prelude.{Option, Some, None, All}
 use Rattle.std.proofs.lemmas.List.{length-take}

@@ -11,10 +11,10 @@
 --   asks_next                   one event, of any hub
 --   asks_none, asks_start       before the first event
 --   asks_as, asks_round         where no event came, and a round
-use Rattle.std.proofs.Common.{◌≡◌, ◌⊎◌, inl, inr, ℕ, suc, ◌+◌, ◌-◌, ◌<◌, ◌≤◌, ◌==◌, Bool, true, false, ◌||◌, cond, List, [], ◌∷◌, ◌++◌, map, length, take, refl, sym}
+use Rattle.std.proofs.Common.{◌≡◌, ◌⊎◌, inl, inr, ℕ, suc, ◌+◌, ◌-◌, ◌≤◌, ◌==◌, Bool, true, false, ◌||◌, cond, List, [], ◌∷◌, ◌++◌, map, length, take, refl, sym}
 use Rattle.std.proofs.Common.{◌∙◌, ap, ap₂, subst, arith, append_assoc, append-nil, length-append}
 use Rattle.std.specs.Prelude.{Option, Some, None, is_some}
-use Rattle.std.specs.Option.{ForSome, option_map}
+use Rattle.std.specs.Option.{option_map}
 use Rattle.std.specs.FinSet as set
 use Rattle.std.proofs.lemmas.Option.{same_Some}
 use Rattle.std.proofs.lemmas.List.{map-append, take_all}
@@ -23,24 +23,21 @@ use Rattle.std.proofs.Math.Seq.{take-length}
 use Rattle.cs_base.specs.declared.content.limits.TheConstants.{MAX_CONNECTION_BYTES}
 use Rattle.cs_base.specs.declared.outside.hub.Event.{Event}
 use Rattle.cs_base.specs.declared.outside.hub.Event.TheVariants.{Opened, Piece, Ended, Over}
-use Rattle.cs_base.specs.outside.Causes.{ReadsWithin}
 use Rattle.cs_base.specs.outside.Hub.{Came, Talk, Listening, IsOrderly, came_of, hears, listens, sent_on}
 use Rattle.cs_engine.specs.Keeping.{EngineView}
-use Rattle.cs_file.specs.CallAnswers.{is_read}
 use Rattle.cs_model.specs.Requests.{Request}
 use Rattle.cs_model_serving.specs.Connections.{Left}
 use Rattle.cs_model_serving.specs.Responses.{Response, all_bytes, memory_bytes, too_long}
 use Rattle.cs_model_serving.proofs.FrameLemmas.{frame-nil, take_both}
-use Rattle.cs_hub.specs.DueReads.{Answered, AnswersWithin, AreDue, AreResponsesBy, HasMemory, IsRest, IsTextBy, IsWholeBy, SentAt, SentBefore, SentBy, bytes_behind}
+use Rattle.cs_hub.specs.DueReads.{Answered, AnswersWithin, AreDue, AreResponsesBy, HasMemory, IsTextBy, IsWholeBy, SentAt, SentBefore, SentBy, bytes_behind}
 use Rattle.cs_hub.specs.DueReads.{bytes_to_answer, goes_on, heads_on, is_want, read_failures, requests_of, requests_on, requests_to}
 use Rattle.cs_hub.specs.HubFollowing.{Lefts, left_at, HasLiveBut, IsOther, IsWhole, LeavesOthers}
 use Rattle.cs_base.specs.outside.Hub.{Happens}
-use Rattle.cs_hub.specs.Rounds.{Acted, ActsOn, Greets, KeepsCame, TakesPiece}
-use Rattle.cs_hub.specs.Speaking.{Did, Spoke, Starved}
+use Rattle.cs_hub.specs.Rounds.{ActsOn, Greets, KeepsCame, TakesPiece}
 use Rattle.cs_hub.specs.Streams.{RoseBy, bytes_at, bytes_that_came}
 use Rattle.cs_hub.specs.Totals.{AsksInAll, AsksSoFar, HasAskedAll, HasAskedOn, StaysAsked, all_answers, by_conn, came_within}
-use Rattle.cs_hub.proofs.AskedLemmas.{Some_said, asked_both, enough_both, memory_both, requests_both, requests_length, reads_both, some_starved}
-use Rattle.cs_hub.proofs.ByLemmas.{are_both, by_behind, memory_part, whole_part}
+use Rattle.cs_hub.proofs.AskedLemmas.{asked_both, enough_both, memory_both, requests_both, reads_both, some_starved}
+use Rattle.cs_hub.proofs.ByLemmas.{are_both, by_behind, memory_part}
 use Rattle.cs_hub.proofs.EventLemmas.{bytes_that_came-push, silent_before}
 use Rattle.cs_hub.proofs.ServedLemmas.{bytes_both}
 use Rattle.cs_hub.proofs.SpeakLemmas.{by_conn as by_case, itself, rose_both, rose_none}

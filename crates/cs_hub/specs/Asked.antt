@@ -9,7 +9,7 @@
 --   LeavesIndex             what every call keeps of an engine and its store
 --   Standing                an engine over its store, as it stands between requests
 --   EngineLeaves s q r t    a request was asked of an engine over its store
-use Rattle.std.specs.Prelude.{◌≡◌, ◌≤◌, ◌⊎◌, ℕ, Bool, true, false, not, List, [], ◌∷◌, ◌++◌, length, drop, Option, Result}
+use Rattle.std.specs.Prelude.{◌≡◌, ◌≤◌, ℕ, Bool, true, false, List, [], ◌∷◌, ◌++◌, length, drop, Option, Result}
 use Rattle.cs_base.specs.outside.Causes.{ReadsWithin}
 use Rattle.cs_base.specs.outside.Hub.{Talk}
 use Rattle.cs_file.specs.CallAnswers.{is_read}
@@ -19,12 +19,11 @@ use Rattle.cs_file.specs.Indexes.{CausedReads}
 use Rattle.cs_model.specs.Corpus.{Corpus}
 use Rattle.cs_model.specs.Replies.{Reply}
 use Rattle.cs_model.specs.Requests.{Request}
-use Rattle.cs_model_serving.specs.Heads.{judge}
-use Rattle.cs_model_serving.specs.Responses.{Response, all_bytes, memory_bytes, response_bytes}
+use Rattle.cs_model_serving.specs.Responses.{Response, all_bytes}
 use Rattle.cs_hub.specs.declared.reading.HeadTurn.{HeadTurn}
 use Rattle.cs_hub.specs.declared.reading.HeadTurn.TheVariants as turns
-use Rattle.cs_hub.specs.DueReads.{Answered, AreResponsesBy, HasMemory, IsDue, IsResponseBy, IsTextBy, SentBefore}
-use Rattle.cs_hub.specs.DueReads.{closes_behind, heads_on, requests_in, requests_of, requests_on, requests_to}
+use Rattle.cs_hub.specs.DueReads.{Answered, AreResponsesBy, HasMemory, IsDue, SentBefore}
+use Rattle.cs_hub.specs.DueReads.{heads_on, requests_of, requests_on, requests_to}
 use Rattle.cs_hub.specs.Speaking.{Spoke}
 
 module _ {K : Type 0} (Leaves : K → Request → Result Reply FetchFault → K → Type 0) where

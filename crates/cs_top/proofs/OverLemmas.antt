@@ -5,6 +5,7 @@
 --   over_behind              behind a call that leaves what is held
 --   over_more, came_more     of some lines and of more
 --   standing_same, comes_same     what comes of parameters, by other names of what is asked
+--   over_same, over_stays         what is answered over, by other names of it
 use Rattle.std.proofs.Common.{◌≡◌, ℕ, List, true, ap, refl, sym, subst, ◌∙◌, arith}
 use Rattle.std.specs.Prelude.{Option, is_some}
 use Rattle.cs_base.specs.outside.Outside.{Held}
@@ -53,3 +54,15 @@ standing_same e e' f f' x y p q r = ap (λ z. file_standing z f x) p ∙ ap (λ 
 
 pub comes_same : (p : List ℕ) (o : RequestOutcome) (s s' t t' : FileStanding) → s ≡ s' → t ≡ t' → ComesOf FileLeaves p s o t → ComesOf FileLeaves p s' o t'
 comes_same p o s s' t t' d e h = subst (λ x. ComesOf FileLeaves p x o t') d (subst (λ x. ComesOf FileLeaves p s o x) e h)
+
+pub over_same : (e e' : EngineView) (f f' : FileView) (x x' : Option Held) (k : Corpus) → e' ≡ e → f' ≡ f → x' ≡ x → AnswersOver e f x k → AnswersOver e' f' x' k
+over_same e e' f f' x x' k p q r over = subst (λ z. AnswersOver z f' x' k) (sym p) (subst (λ z. AnswersOver e z x' k) (sym q) (subst (λ z. AnswersOver e f z k) (sym r) over))
+
+pub over_stays : (e d e' : EngineView) (f g f' : FileView) (x y x' : Option Held) → d ≡ e → g ≡ f → y ≡ x → ((k : Corpus) → AnswersOver d g y k → AnswersOver e' f' x' k)
+    → e'.index ≡ d.index → f' ≡ g → x' ≡ y → StaysOver e e' f f' x x'
+over_stays e d e' f g f' x y x' p q r still index file held = record {
+  stays = λ k over. still k (over_same e d f g x y k p q r over);
+  engine = index ∙ ap (λ (z : EngineView). z.index) p;
+  file = file ∙ q;
+  files = held ∙ r;
+}

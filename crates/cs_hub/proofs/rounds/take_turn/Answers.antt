@@ -1,7 +1,6 @@
 use Rattle.std.proofs.Common.{refl, sym, ◌∙◌, ap, length}
 use Rattle.std.specs.Option.{option_map}
 use Rattle.cs_base.specs.outside.Hub.{hears}
-use Rattle.cs_model_index.specs.Sections.{file_corpus}
 use Rattle.cs_hub.proofs.PieceTurns.{leaves_none}
 use Rattle.cs_hub.proofs.RoundLemmas.{before_step}
 use Rattle.cs_hub.proofs.TotalLemmas.{asks_as, asks_next}

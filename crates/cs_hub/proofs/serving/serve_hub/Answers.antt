@@ -1,6 +1,5 @@
 use Rattle.cs_model_index.specs.Sections.{file_corpus}
 use Rattle.cs_hub.proofs.FollowLemmas.{served_none}
-use Rattle.cs_hub.proofs.PieceTurns.{leaves_none}
 use Rattle.cs_hub.proofs.TotalLemmas.{asks_none}
 use Rattle.cs_hub.proofs.serving.serve_hub.Goals as goal
 

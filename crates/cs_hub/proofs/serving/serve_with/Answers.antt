@@ -1,5 +1,4 @@
-use Rattle.std.proofs.Common.{sym, ◌∙◌, ap, subst}
-use Rattle.std.specs.Option.{ForSome}
+use Rattle.std.proofs.Common.{sym, ◌∙◌, subst}
 use Rattle.cs_file.specs.Indexes.{HasAllBlocks, StandsFor}
 use Rattle.cs_model_index.specs.Sections.{file_corpus}
 use Rattle.cs_hub.proofs.PieceTurns.{leaves_none, leaves_both}
