@@ -1,6 +1,7 @@
 pub mod AnswerLemmas
 pub mod AnsweredLemmas
 pub mod BuildLemmas
+pub mod ChangeLines
 pub mod CompleteLemmas
 pub mod CommandLineExamples
 pub mod LineTexts

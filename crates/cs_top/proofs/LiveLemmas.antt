@@ -7,6 +7,7 @@ use Rattle.std.proofs.Common.{◌≡◌, ℕ, suc, ◌+◌, ◌≤◌, List, [],
 use Rattle.std.specs.Prelude.{Option}
 use Rattle.std.proofs.lemmas.List.{take_all}
 use Rattle.std.proofs.lemmas.List.Elements.{All-nil, All-push}
+use Rattle.cs_base.specs.outside.Causes.{Rose}
 use Rattle.cs_base.proofs.GrewLemmas.{grew_begun}
 use Rattle.cs_model.specs.Corpus.{Corpus}
 use Rattle.cs_model.specs.Outputs.{IsChangedText, put_of, readable_lines}
@@ -15,8 +16,8 @@ use Rattle.cs_model_index.specs.Sections.{file_corpus, image_of}
 use Rattle.cs_model_live.proofs.CourseLemmas.{courses_go_on}
 use Rattle.cs_model_live.specs.Courses.{Course}
 use Rattle.cs_model_live.specs.LiveStates.{LiveState, before_changes}
-use Rattle.cs_top.proofs.AnsweredLemmas.{HasAnswered, as_put, at_start, ends_at_line, ends_done, goes_behind, goes_past, lines_at}
-use Rattle.cs_top.specs.Answering.{worst}
+use Rattle.cs_top.proofs.AnsweredLemmas.{HasAnswered, as_put, at_start, ends_at_line, ends_done, goes_behind, goes_past, lines_at, unread}
+use Rattle.cs_top.specs.Answering.{CameCounts, worst}
 use Rattle.cs_top.specs.CommandLine.{Ending, done, failed}
 use Rattle.cs_top.specs.LiveRuns.{IsToldCourse, LiveScript}
 use Rattle.cs_top.specs.LiveSteps.{IsLiveStep, IsToldCourseTo, LineText, LiveReaches}
@@ -52,6 +53,16 @@ length_course w k s e (l ∷ ls) (t ∷ ts) c = ap suc (length_course w k c.0 e 
 -- ---- line by line
 pub live_start : (b : List ℕ) (all left : List (ℕ × List ℕ)) (w : Option (List ℕ)) (n m : ℕ) → all ≡ left → m ≡ n → HasAnswered (IsToldCourseTo b (before_changes (file_corpus b))) all left w w Answered n m
 live_start b all left w n m is same = at_start (IsToldCourseTo b (before_changes (file_corpus b))) all left w n m (no_course b) is same
+
+-- a file failed before the first line
+pub live_unread : (b : List ℕ) (all : List (ℕ × List ℕ)) (w : Option (List ℕ)) (first last before now : ℕ) → Rose before now
+    → (ts : List (List ℕ)) × ScriptEndsBy (IsToldCourse b) failed all ts (record { old = w; new = w; before = first; now = last }) × ShortTally failed (record { old = w; new = w; before = first; now = last }) before now ts
+live_unread b all w first last before now rose =
+    unread (at_start (IsToldCourse b) all all w before before (told_course b (before_changes (file_corpus b)) [] [] (no_course b)) refl refl) first last w now refl rose
+
+-- of no lines
+pub counts_none : (n m : ℕ) → m ≡ n → CameCounts Answered n m
+counts_none n m calm = record { later = omega (arith, calm); read = λ e. absurd (cc e); quiet = λ other. calm }
 
 module _ (b : List ℕ) (s : LiveState) (x : List ℕ) (p : Place) {all : List (ℕ × List ℕ)} {old now : Option (List ℕ)} {came : WhatCame} {before count : ℕ} (h : HasAnswered (IsToldCourseTo b s) all (lines_at x p) old now came before count) where
   -- the script goes on behind the line, in the state that it leads to
