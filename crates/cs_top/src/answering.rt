@@ -118,8 +118,10 @@ impl<F: Files> Answerer for AskingFile<'_, '_, F> {
     ghost leaves = { FileLeaves };
 
     fn reply(&mut self, alloc: Global, request: &Request) -> Result<Reply, AskFault> {
-        let (reply, _) = respond(alloc, self.engine, self.file, self.files, request)?;
-        Ok(reply)
+        match respond(alloc, self.engine, self.file, self.files, request) {
+            Ok((reply, _)) => Ok(reply),
+            Err(fault) => Err(fault),
+        }
     }
 }
 

@@ -25,17 +25,17 @@ returns-in-Refused-clause-texts g c =
 -- ---- a reply
 pub returns-in-Replied-clause-came : goal.returns-in-Replied-clause-came
 returns-in-Replied-clause-came g c =
-    text_came c.args.engine.now c.args.file.now _ c.reply_line.result c.text_or_memory.result _ _ c.text_or_memory.ensures.text c.text_or_memory.ensures.memory
+    text_came c.args.engine.now c.args.file.now _ c.reply_line.result c.text_or_memory-in-Replied.result _ _ c.text_or_memory-in-Replied.ensures.text c.text_or_memory-in-Replied.ensures.memory
     c.in-Replied.ensures.caused
 
 pub returns-in-Replied-clause-text : goal.returns-in-Replied-clause-text
 returns-in-Replied-clause-text g c k over =
-    reply_is c.args.showing.now c.args.file.now k c.args.line.now (asked c.in-Replied.wanted) c.in-Replied.reply c.reply_line.result c.text_or_memory.result c.in-Replied.ensures.comes.0
-    c.in-Replied.ensures.comes.1 (c.in-Replied.ensures.right k over) c.text_or_memory.ensures.text c.text_or_memory.ensures.memory c.reply_line.ensures
+    reply_is c.args.showing.now c.args.file.now k c.args.line.now (asked c.in-Replied.wanted) c.in-Replied.reply c.reply_line.result c.text_or_memory-in-Replied.result c.in-Replied.ensures.comes.0
+    c.in-Replied.ensures.comes.1 (c.in-Replied.ensures.right k over) c.text_or_memory-in-Replied.ensures.text c.text_or_memory-in-Replied.ensures.memory c.reply_line.ensures
 
 pub returns-in-Replied-clause-texts : goal.returns-in-Replied-clause-texts
 returns-in-Replied-clause-texts g c =
-    reply_put c.args.showing.now c.in-Replied.wanted.query c.in-Replied.reply c.reply_line.result c.text_or_memory.result c.text_or_memory.ensures.text c.text_or_memory.ensures.memory c.reply_line.ensures
+    reply_put c.args.showing.now c.in-Replied.wanted.query c.in-Replied.reply c.reply_line.result c.text_or_memory-in-Replied.result c.text_or_memory-in-Replied.ensures.text c.text_or_memory-in-Replied.ensures.memory c.reply_line.ensures
 
 -- ---- a failed read
 pub returns-in-Read-clause-came : goal.returns-in-Read-clause-came
