@@ -17,6 +17,10 @@ import sys
 EXCUSED = {
     "Lib": "each folder of definitions or lemmas has its list of modules",
     "content": "the folder of texts and queries and that of their formers each have their list of modules",
+    "Entry": "the columns that cs_cache keeps of a query, and in cs_model_kept what they stand for",
+    "excerpt": "the call of cs_more, and the text in cs_model_excerpts that it gives",
+    "score": "the call of cs_rank for all documents, and in cs_model the score of one",
+    "serve": "the call of cs_hub over a hub, and in cs_model_serving the responses that it sends",
     "CountsRows": "of a run of words in cs_build and of the marks of words in cs_tables: neither crate nor one above names both",
 }
 

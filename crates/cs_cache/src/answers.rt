@@ -3,7 +3,7 @@ ghost use Rattle.std.specs.Prelude.{◌≡◌, ◌≤◌, ◌∷◌, [], Some, f
 ghost use Rattle.cs_model_kept.specs.KeptList.{extend_or_fresh, is_held, kept_fresh, plan_by, put_in_front, to_front, used_entry, used_key};
 ghost use Rattle.cs_cache.specs.AnswerList.{answer_list};
 
-use crate::KeptEntry;
+use crate::Entry;
 use crate::slots::{self, Slots};
 use cs_base::{Base, Kept, Key, Keys, Memory, Plan};
 use cs_cols::Cols;
@@ -101,7 +101,7 @@ impl Answers {
 
     /// Puts an entry in front, under a key that isn't held, and where the list was full drops the last one. An entry that is too
     /// large is dropped itself, and the list stays as it is.
-    pub fn keep(&mut self, key: Key, entry: KeptEntry) -> Kept
+    pub fn keep(&mut self, key: Key, entry: Entry) -> Kept
         requires new { is_held self.old.entries key ≡ false }
 
         ensures kept { result ≡ kept_fresh entry }
@@ -142,7 +142,7 @@ impl Answers {
     }
 
     // Over the slot used longest ago, so that no memory is needed.
-    fn put_first(&mut self, key: Key, entry: KeptEntry)
+    fn put_first(&mut self, key: Key, entry: Entry)
         requires new { is_held self.old.entries key ≡ false }
 
         ensures entries { self.new.entries ≡ take self.old.capacity ((key, entry) ∷ self.old.entries) }

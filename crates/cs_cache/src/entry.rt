@@ -8,14 +8,14 @@ use std::marker::Model;
 
 /// What is kept of a query, seen as its base and the posts of its rows.
 #[derive(Drop)]
-pub struct KeptEntry {
+pub struct Entry {
     /// The hits from which the query's last part goes on.
     pub base: Base,
     /// The rows of that part in them, by document, position and word.
     pub rows: Cols,
 }
 
-impl Model for KeptEntry {
+impl Model for Entry {
     ghost use Rattle.cs_base.specs.declared.content.doc.Post.{Post};
     ghost use Rattle.cs_model_kept.specs.Entries.{EntryOf};
 
@@ -24,7 +24,7 @@ impl Model for KeptEntry {
     ghost view = { λ e. record { base = e.base; rows = e.rows.posts } };
 }
 
-impl KeptEntry {
+impl Entry {
     // Its rows and the documents that its base lists, counted together.
     pub(crate) fn size(&self) -> usize
         ensures { result ≡ kept_entry_size self.now }

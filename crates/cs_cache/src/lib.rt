@@ -10,4 +10,4 @@ mod entry;
 mod slots;
 
 pub use answers::{Answers, View};
-pub use entry::KeptEntry;
+pub use entry::Entry;

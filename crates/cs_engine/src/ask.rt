@@ -19,7 +19,7 @@ use crate::note::Note;
 use crate::show::{RequestOver, show};
 use crate::source::Source;
 use cs_base::{Base, Kept, Keys, Plan, Store};
-use cs_cache::{Answers, KeptEntry};
+use cs_cache::{Answers, Entry};
 use cs_file::FetchFault;
 use cs_query::{Reply, keys};
 
@@ -125,7 +125,7 @@ fn hold_counted(held: &mut Holder, hits: Base, range: Option<CountedWords>)
 }
 
 // What becomes of the query's own entry, behind a reply by a plan. The entry that the plan used comes to the front before.
-fn put(answers: &mut Answers, keys: Keys, plan: Plan, entry: Option<KeptEntry>) -> Kept
+fn put(answers: &mut Answers, keys: Keys, plan: Plan, entry: Option<Entry>) -> Kept
     requires plan { plan ≡ plan_by answers.old.entries keys }
     requires own { is_same plan ≡ true → is_some entry ≡ false }
 

@@ -8,17 +8,17 @@ ghost use Rattle.cs_engine.specs.{Sources.{IsSource}, Steps.{posts_hits, posts_a
 use crate::hits::{all_docs, doc_numbers, hits_without, kept_in};
 use crate::source::Source;
 use cs_base::{Base, Memory, Scored, Seq};
-use cs_cache::KeptEntry;
+use cs_cache::Entry;
 use cs_cols::Cols;
 use cs_meet::docs_of;
-use cs_rank::doc_scores;
+use cs_rank::score;
 use std::alloc::Global;
 
 /// The entry before the first part.
-pub(crate) fn first_entry(alloc: Global) -> KeptEntry
+pub(crate) fn first_entry(alloc: Global) -> Entry
     ensures { result ≡ record { base = base.All; rows = [] } }
 {
-    KeptEntry {
+    Entry {
         base: Base::All,
         rows: Cols::new(alloc),
     }
@@ -40,7 +40,7 @@ pub(crate) fn posts_hits(
         let copied = base_copy(alloc, base)?;
         return Ok(copied);
     }
-    let scored = doc_scores(alloc, base, rows)?;
+    let scored = score(alloc, base, rows)?;
     Ok(Base::Listed(scored))
 }
 
@@ -64,7 +64,7 @@ pub(crate) fn posts_after<I: Source>(
     hits: Base,
     excluded: bool,
     rows: Cols,
-) -> Result<KeptEntry, Memory>
+) -> Result<Entry, Memory>
     requires source { IsSource (I.view index.now) }
     requires base { IsBase hits }
     requires rows_sorted { AreSorted rows.posts }
@@ -73,13 +73,13 @@ pub(crate) fn posts_after<I: Source>(
 {
     if excluded {
         let left = hits_without(alloc, index, &hits, &rows)?;
-        return Ok(KeptEntry {
+        return Ok(Entry {
             base: Base::Listed(left),
             rows: Cols::new(alloc),
         });
     }
     let kept = kept_in(alloc, &hits, rows)?;
-    Ok(KeptEntry {
+    Ok(Entry {
         base: hits,
         rows: kept,
     })

@@ -13,7 +13,7 @@ use crate::entries::{base_copy, posts_hits};
 use crate::source::Source;
 use crate::steps::end_positive;
 use cs_base::{Base, Memory, Query};
-use cs_cache::KeptEntry;
+use cs_cache::Entry;
 use cs_cols::Cols;
 use cs_query::last_prefix;
 use std::alloc::Global;
@@ -26,7 +26,7 @@ pub(crate) fn narrowed<I: Source>(
     query: &Query,
     base: &Base,
     rows: &Cols,
-) -> Result<KeptEntry, Memory>
+) -> Result<Entry, Memory>
     requires typed { IsSome (last_prefix query.now) }
     requires within { AreWithin (seen (I.view index.now)) rows.now.posts }
 
@@ -40,7 +40,7 @@ pub(crate) fn narrowed<I: Source>(
     let (lo, hi) = index.range(prefix.as_bytes());
     let copied = base_copy(alloc, base)?;
     let found = posts_between(alloc, rows, lo, hi)?;
-    Ok(KeptEntry {
+    Ok(Entry {
         base: copied,
         rows: found,
     })

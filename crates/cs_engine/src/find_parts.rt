@@ -21,7 +21,7 @@ use crate::plain::words_of_part;
 use crate::source::Source;
 use crate::steps::extended_entry;
 use cs_base::{Base, Store};
-use cs_cache::KeptEntry;
+use cs_cache::Entry;
 use cs_file::FetchFault;
 use cs_model_kept::MAX_ENTRY_SIZE;
 use cs_tables::Table;
@@ -91,7 +91,7 @@ fn find_words<I: Source, S: Store>(
     }
     pack_chosen(weights, held, words, marks, &mut gathered.keys)?;
     let rows = ordered(alloc, weights, gathered.keys)?;
-    let found = found_with(over, KeptEntry { base: hits, rows })?;
+    let found = found_with(over, Entry { base: hits, rows })?;
     Ok(found)
 }
 

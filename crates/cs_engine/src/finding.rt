@@ -12,7 +12,7 @@ use crate::entries::posts_hits;
 use crate::source::Source;
 use crate::steps::end_positive;
 use cs_base::{Base, Memory, Query};
-use cs_cache::KeptEntry;
+use cs_cache::Entry;
 use cs_cols::Cols;
 use cs_tables::{Table, WordCounts, completions};
 use std::alloc::{AllocError, Global};
@@ -41,7 +41,7 @@ pub(crate) struct QueryFound {
     /// The completions, cut.
     pub(crate) table: Table,
     /// The query's own entry, where it wasn't kept before and isn't too large.
-    pub(crate) own: Option<KeptEntry>,
+    pub(crate) own: Option<Entry>,
     /// The words of the range that the query asks for alone, counted in its hits, where it is to be held.
     pub(crate) range: Option<CountedWords>,
 }
@@ -57,7 +57,7 @@ pub(crate) struct CountedWords {
 /// What is found by the query's own entry, which goes along.
 pub(crate) fn found_with<I: Source>(
     over: QueryOver<'_, I>,
-    entry: KeptEntry,
+    entry: Entry,
 ) -> Result<QueryFound, Memory>
     requires own { CanOwn (I.view over.index.now) over.query.now entry }
 

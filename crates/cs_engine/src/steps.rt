@@ -14,7 +14,7 @@ use crate::plain::words_of_part;
 use crate::scored::hits_by_words;
 use crate::source::Source;
 use cs_base::{Base, Part, Store};
-use cs_cache::KeptEntry;
+use cs_cache::Entry;
 use cs_file::FetchFault;
 use std::alloc::Global;
 
@@ -54,7 +54,7 @@ pub(crate) fn extended_entry<I: Source, S: Store>(
     store: &mut S,
     hits: Base,
     part: &Part,
-) -> Result<KeptEntry, FetchFault>
+) -> Result<Entry, FetchFault>
     requires base { IsBaseOf (I.view index.now).docs (MAX_ROW_SCORE * MAX_PARTS) hits }
     requires opened { CanRead (S.bytes store.old) (I.view index.now) }
 

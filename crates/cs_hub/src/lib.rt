@@ -20,5 +20,5 @@ mod steps;
 
 pub use answering::Answerer;
 pub use outcomes::{RequestOutcome, outcome_of};
-pub use serving::{ServeEnd, serve_hub};
+pub use serving::{ServeEnd, serve};
 pub use slots::Core;

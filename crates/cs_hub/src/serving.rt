@@ -31,7 +31,7 @@ pub enum ServeEnd {
 
 /// Serves so many connections of a hub that listens and has opened none, until all were opened and none is live, or nothing more
 /// comes.
-pub fn serve_hub<S: Store, H: Hub>(
+pub fn serve<S: Store, H: Hub>(
     alloc: Global,
     engine: &mut Engine,
     store: &mut S,

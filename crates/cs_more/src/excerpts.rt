@@ -22,7 +22,7 @@ use std::alloc::Global;
 /// The shortest run of a document's text words that has a word of each positive part of a query that some text word
 /// serves, of those of one length the first, cut to its first `MAX_EXCERPT_WORDS` words. A word that serves such a part
 /// stands between brackets. It is the empty text where no text word serves a positive part.
-pub fn own_excerpt(alloc: Global, doc: &Doc, query: &Query) -> Result<Text, Memory>
+pub fn excerpt(alloc: Global, doc: &Doc, query: &Query) -> Result<Text, Memory>
     // A document of a collection has no more.
     requires few { length (words doc.now.text) ≤ MAX_DOC_WORDS }
 
@@ -32,7 +32,7 @@ pub fn own_excerpt(alloc: Global, doc: &Doc, query: &Query) -> Result<Text, Memo
     Ok(text)
 }
 
-/// The excerpt of a document whose columns are lent, as `own_excerpt` gives it.
+/// The excerpt of a document whose columns are lent, as `excerpt` gives it.
 pub fn lent_excerpt(alloc: Global, doc: &LentDoc<'_>, query: &Query) -> Result<Text, Memory>
     // A document of a collection has no more.
     requires few { length (words doc.now.text.now) ≤ MAX_DOC_WORDS }

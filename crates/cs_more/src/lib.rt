@@ -17,6 +17,6 @@ mod runs;
 
 pub use cs_model_sources::{BadLine, Flat, Why};
 pub use csv_source::flat_csv;
-pub use excerpts::{lent_excerpt, own_excerpt};
+pub use excerpts::{excerpt, lent_excerpt};
 pub use fault::FlatFault;
 pub use json_source::flat_jsonl;

@@ -9,4 +9,4 @@ mod scores;
 
 pub use best::{Best, MAX_ROOM};
 pub use hits::top;
-pub use scores::{add_base, doc_scores};
+pub use scores::{add_base, score};

@@ -18,7 +18,7 @@ const NOTHING: Scored = Scored { doc: 0, score: 0 };
 
 /// Each document of the rows, ascending, with its score: what the base gave it and the greatest score of its
 /// rows. A document that the base doesn't list counts there as 0.
-pub fn doc_scores(alloc: Global, base: &Base, rows: &Cols) -> Result<Seq<Scored>, Memory>
+pub fn score(alloc: Global, base: &Base, rows: &Cols) -> Result<Seq<Scored>, Memory>
     requires base { IsBase base.now }
     requires rows_sorted { AreSorted rows.now.posts }
 

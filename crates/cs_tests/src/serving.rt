@@ -3,7 +3,7 @@ use crate::engine::engine_over;
 use crate::hubs::{Came, TWO_CONNECTIONS, hub_of};
 use crate::runs::same;
 use cs_base::{Hub, MemStore, Memory, ScriptHub};
-use cs_hub::{ServeEnd, serve_hub};
+use cs_hub::{ServeEnd, serve};
 use cs_worked::{HEADS, LONG_HEAD, NO_DOCUMENTS, NO_QUERY, OTHER_PATH};
 use std::alloc::Global;
 use std::process::Abort;
@@ -14,7 +14,7 @@ fn serve_two(alloc: Global, hub: &mut ScriptHub) -> Result<(), Fail> {
     let mut store = MemStore::new(NO_DOCUMENTS.file.to_vec(alloc)?);
     let mut engine = engine_over(alloc, &mut store)?;
     hub.listen(8080, 2)?;
-    if serve_hub(alloc, &mut engine, &mut store, hub, 2) != ServeEnd::Done {
+    if serve(alloc, &mut engine, &mut store, hub, 2) != ServeEnd::Done {
         return Err(Fail::new("another end"));
     }
     Ok(())

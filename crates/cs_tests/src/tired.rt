@@ -5,7 +5,7 @@ use crate::runs::{built, same};
 use cs_base::{Hub, Plan, TiredStore};
 use cs_engine::AskFault;
 use cs_http::request;
-use cs_hub::{ServeEnd, serve_hub};
+use cs_hub::{ServeEnd, serve};
 use cs_worked::{FAILED_READ, THREE_DOCUMENTS, TYPED};
 use std::alloc::Global;
 use std::test::Fail;
@@ -33,7 +33,7 @@ fn a_failed_read_is_that_of_one_request(rt: HostRuntime) -> Result<(), Fail> {
     let mut hub = hub_of(alloc, &rows)?;
     hub.listen(8080, 1)?;
     store.fail_at(1);
-    assert!(rt; serve_hub(alloc, &mut engine, &mut store, &mut hub, 1) == ServeEnd::Done);
+    assert!(rt; serve(alloc, &mut engine, &mut store, &mut hub, 1) == ServeEnd::Done);
     let sent = format!(in alloc; "{}{}", FAILED_READ, TYPED.response)?;
     same(&rt, &hub.sent(0), &sent.as_bytes(), "sent");
     Ok(())

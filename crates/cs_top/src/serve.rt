@@ -122,5 +122,5 @@ fn serve_file<F: Files, H: Hub>(
     ensures later { F.faults files.old ≤ F.faults files.new }
 {
     let mut store = FileStore::new(files, file.name, file.size);
-    cs_hub::serve_hub(alloc, engine, &mut store, hub, conns)
+    cs_hub::serve(alloc, engine, &mut store, hub, conns)
 }

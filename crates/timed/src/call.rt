@@ -5,7 +5,7 @@ use crate::input::{Inputs, made_inputs};
 use cs_base::{Base, Memory, Scored, Seq};
 use cs_cols::Cols;
 use cs_meet::{docs_of, drop_docs, follow, keep_docs, near, unite};
-use cs_rank::{doc_scores, top};
+use cs_rank::{score, top};
 use cs_tables::{Table, completions};
 use std::alloc::Global;
 
@@ -91,8 +91,8 @@ fn pass(alloc: Global, call: Call, inputs: &Inputs) -> Result<u64, Memory>
         Call::DocsOf => told_docs(docs_of(alloc, a)?.as_slice()),
         Call::DropDocs => told_scored(&drop_docs(alloc, inputs.listed.as_slice(), a)?),
         Call::Completions => told_table(&completions(alloc, a, CUT)?),
-        Call::Score => told_scored(&doc_scores(alloc, &Base::All, a)?),
-        Call::ScoreOver => told_scored(&doc_scores(alloc, &inputs.base, a)?),
+        Call::Score => told_scored(&score(alloc, &Base::All, a)?),
+        Call::ScoreOver => told_scored(&score(alloc, &inputs.base, a)?),
         Call::Top => told_scored(&best(alloc, inputs)?),
     })
 }

@@ -7,7 +7,7 @@ use crate::numbers::{posts, ranked};
 use cs_base::{Base, MAX_DOCS, MAX_WORDS, Memory, Scored, Seq};
 use cs_cols::Cols;
 use cs_meet::docs_of;
-use cs_rank::doc_scores;
+use cs_rank::score;
 use std::alloc::Global;
 
 /// What the calls are run on.
@@ -42,8 +42,8 @@ pub(crate) fn made_inputs(alloc: Global, rows: u32, other: u32) -> Result<Option
     }
     let both = copies(alloc, &a, &b)?;
     let docs = docs_of(alloc, &b)?;
-    let listed = doc_scores(alloc, &Base::All, &b)?;
-    let base = doc_scores(alloc, &Base::All, &b)?;
+    let listed = score(alloc, &Base::All, &b)?;
+    let base = score(alloc, &Base::All, &b)?;
     if !are_listed(listed.as_slice()) || !are_listed(base.as_slice()) {
         return Ok(None);
     }

@@ -1,7 +1,7 @@
 //! Excerpts of small texts.
 use crate::tests::rows::same;
 use cs_base::{Doc, MAX_DOC_WORDS, Text};
-use cs_more::own_excerpt;
+use cs_more::excerpt;
 use cs_query::parse;
 use cs_text::words;
 use std::alloc::Global;
@@ -67,6 +67,6 @@ fn excerpt_of(alloc: Global, text: &str, query: &str) -> Result<Text, Fail> {
     if words(alloc, doc.text.as_str())?.len() > MAX_DOC_WORDS {
         return Err(Fail::new("too many words"));
     }
-    let shown = own_excerpt(alloc, &doc, &query)?;
+    let shown = excerpt(alloc, &doc, &query)?;
     Ok(shown)
 }

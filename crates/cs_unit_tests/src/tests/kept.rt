@@ -3,7 +3,7 @@ ghost use Rattle.std.specs.Prelude.{◌≡◌, IfOk};
 
 use crate::tests::rows::same;
 use cs_base::{Base, Kept, Key, Keys, Memory, Narrower, Plan, Post, Seq, Text};
-use cs_cache::{Answers, KeptEntry};
+use cs_cache::{Answers, Entry};
 use cs_cols::Cols;
 use std::alloc::Global;
 use std::test::Fail;
@@ -20,7 +20,7 @@ fn key(alloc: Global, text: &str) -> Result<Key, Memory>
 }
 
 // An entry of so many rows.
-fn entry(alloc: Global, rows: u32) -> Result<KeptEntry, Memory> {
+fn entry(alloc: Global, rows: u32) -> Result<Entry, Memory> {
     let mut cols = Cols::new(alloc);
     for doc in 0..rows {
         cols.reserve(1)?;
@@ -31,7 +31,7 @@ fn entry(alloc: Global, rows: u32) -> Result<KeptEntry, Memory> {
             score: 4,
         });
     }
-    Ok(KeptEntry {
+    Ok(Entry {
         base: Base::All,
         rows: cols,
     })

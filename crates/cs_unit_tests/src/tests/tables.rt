@@ -5,7 +5,7 @@ ghost use Rattle.cs_unit_tests.specs.Sample.{sample, sample_base};
 use crate::tests::rows::same;
 use cs_base::{Base, Memory, Post, Scored, Seq};
 use cs_cols::Cols;
-use cs_rank::doc_scores;
+use cs_rank::score;
 use cs_tables::{Completion, WordCounts, completions};
 use std::alloc::Global;
 use std::test::Fail;
@@ -86,7 +86,7 @@ const SCORED: &[Scored] = &[Scored { doc: 0, score: 5 }, Scored { doc: 1, score:
 fn a_document_has_its_greatest_score_and_that_of_its_base(rt: HostRuntime) -> Result<(), Fail> {
     let rows = rows(rt.alloc())?;
     let base = Base::Listed(base(rt.alloc())?);
-    let scored = doc_scores(rt.alloc(), &base, &rows)?;
+    let scored = score(rt.alloc(), &base, &rows)?;
     same(&rt, &scored.as_slice(), &SCORED, "the scores");
     Ok(())
 }

@@ -1,7 +1,7 @@
 use Rattle.cs_model_index.specs.Sections.{file_corpus}
 use Rattle.cs_hub.proofs.FollowLemmas.{served_none}
 use Rattle.cs_hub.proofs.TotalLemmas.{asks_none}
-use Rattle.cs_hub.proofs.serving.serve_hub.Goals as goal
+use Rattle.cs_hub.proofs.serving.serve.Goals as goal
 
 pub returns-in_default-clause-served : goal.returns-in_default-clause-served
 returns-in_default-clause-served g c =

@@ -3,7 +3,7 @@ use Rattle.cs_base.specs.declared.content.doc.Base.TheVariants.{Listed}
 use Rattle.cs_rank.specs.DocScores.{with_base, doc_scores}
 use Rattle.cs_base.specs.content.Orders.{docs_of, AreByDoc}
 use Rattle.cs_rank.proofs.GroupsLemmas.{best_rise, base_each}
-use Rattle.cs_rank.proofs.scores.doc_scores.Goals as goal
+use Rattle.cs_rank.proofs.scores.score.Goals as goal
 
 pub add_base-requires-clause-best_sorted : goal.add_base-requires-clause-best_sorted
 add_base-requires-clause-best_sorted c =
