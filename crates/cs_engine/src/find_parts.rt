@@ -21,12 +21,8 @@ use crate::plain::words_of_part;
 use crate::source::Source;
 use crate::steps::extended_entry;
 use cs_base::{Base, Store};
-<<<<<<< ours
 use cs_cache::Entry;
-=======
-use cs_cache::KeptEntry;
 use cs_cols::Cols;
->>>>>>> theirs
 use cs_file::FetchFault;
 use cs_model_kept::MAX_ENTRY_SIZE;
 use cs_tables::Table;
@@ -55,7 +51,7 @@ pub(crate) fn find_last<I: Source, S: Store>(
     let part = &parts[last];
     if lists_none(&hits) {
         let rows = Cols::new(over.alloc);
-        let none = found_with(over, KeptEntry { base: hits, rows })?;
+        let none = found_with(over, Entry { base: hits, rows })?;
         return Ok(none);
     }
     if let Some(words) = words_of_part(over.index, part) {
