@@ -3,10 +3,10 @@
 -- Source: this engine's own.
 --
 --   rows_where t rows      those of rows whose document passes
---   restricted t l      the same of a linked atom
---   LinksStayWithin     links lead from rows in some documents to rows in these
---   ChainsStayWithin    and so do chains
---   UnionsStayWithin    alternatives have in them what each of them has there
+--   restricted t l         the same of a linked atom
+--   LinksStayWithin        links lead from rows in some documents to rows in these
+--   ChainsStayWithin       and so do chains
+--   UnionsStayWithin       alternatives have in them what each of them has there
 use Rattle.std.specs.Prelude.{◌≡◌, ℕ, Bool, List, map, filter}
 use Rattle.cs_base.specs.declared.content.doc.Row.{Row}
 use Rattle.cs_base.specs.declared.content.query.Link.{Link}
