@@ -1,7 +1,7 @@
 -- One part more, by the rows of the part in the hits.
 --
 --   step_inside     the entry is that by all rows of the part
-use Rattle.std.proofs.Common.{◌≡◌, ℕ, ◌==◌, ◌&&◌, ◌||◌, Bool, true, false, not, List, [], ◌∷◌, length, map, cond, refl, sym, ap, subst, ◌∙◌, if◌then◌else◌}
+use Rattle.std.proofs.Common.{◌≡◌, ℕ, ◌==◌, ◌&&◌, ◌||◌, Bool, true, false, not, List, [], ◌∷◌, refl, sym, ap, ◌∙◌}
 use Rattle.std.specs.Prelude.{filter}
 use Rattle.std.specs.List.{AllByRecursion, list_any}
 use Rattle.std.proofs.lemmas.Bool.{eqb-true}
@@ -13,8 +13,7 @@ use Rattle.cs_base.specs.declared.content.doc.Row.{Row}
 use Rattle.cs_base.specs.declared.content.doc.Scored.{Scored}
 use Rattle.cs_base.proofs.ListsLemmas.{all_of, all_stay, any_through, filter_alike, filter_twice, own_members}
 use Rattle.cs_model.specs.Answers.{PartRows, in_doc, is_listed}
-use Rattle.cs_model_kept.specs.Entries.{Entry, EntryOf, entry_after, is_begun, is_hit, without}
-use Rattle.cs_model_kept.specs.Entries as kept
+use Rattle.cs_model_kept.specs.Entries.{Entry, entry_after, is_hit, without}
 use Rattle.cs_engine.specs.IndexReading.{HasRows}
 use Rattle.cs_engine.specs.Restricting.{rows_where}
 use Rattle.cs_engine.specs.Skipping.{hit_docs, lists_doc}

@@ -9,7 +9,7 @@
 --   hits_less, last_hits_less, facets_hit_less       they are no more than those that are met
 --   inside_begins, inside_goes_on, inside_stops, inside_ends       links
 --   lists_begin_inside, lists_go_on_inside, lists_end_inside       alternatives
-use Rattle.std.proofs.Common.{◌≡◌, ℕ, ◌+◌, ◌<◌, ◌≤◌, ◌==◌, ◌&&◌, Bool, true, false, cond, Option, Some, None, List, [], ◌∷◌, ◌++◌, length, get_or, map, take, drop}
+use Rattle.std.proofs.Common.{◌≡◌, ℕ, ◌+◌, ◌<◌, ◌≤◌, ◌&&◌, Bool, true, false, cond, Option, Some, None, List, [], ◌∷◌, ◌++◌, length, get_or, map, take, drop}
 use Rattle.std.proofs.Common.{drop-cons, add-one, refl, sym, ap, ap₂, subst, ◌∙◌, arith}
 use Rattle.std.specs.Prelude.{All, IfOk, IfSome, Result, sum, filter, flat_map}
 use Rattle.std.specs.List.{AllByRecursion, Contains, list_any}
@@ -48,12 +48,12 @@ use Rattle.cs_model_kept.proofs.SharpLemmas.{facets_less, part_less}
 use Rattle.cs_vocab.specs.Ranges.{IsRange}
 use Rattle.cs_engine.specs.Asking.{division}
 use Rattle.cs_engine.specs.Counting.{in_listed}
-use Rattle.cs_engine.specs.IndexReading.{AreWithin, HasRows, IsSpanOf}
+use Rattle.cs_engine.specs.IndexReading.{HasRows, IsSpanOf}
 use Rattle.cs_engine.specs.Packing.{IsOrdered}
 use Rattle.cs_engine.specs.Plain.{AreSharp, AreWordsOf}
 use Rattle.cs_engine.specs.Restricting.{rows_where, restricted}
 use Rattle.cs_engine.specs.Skipping.{Lists, hit_docs, hit_met, hit_of_atom, hit_of_chain, hit_of_facet, hit_of_facets, hit_of_last, hit_of_linked, hit_of_part, lists_doc}
-use Rattle.cs_engine.specs.Sources.{HoldMet, IsSource, SourceView, met_in, seen}
+use Rattle.cs_engine.specs.Sources.{HoldMet, IsSource, SourceView, met_in}
 use Rattle.cs_engine.specs.Stocked.{IsPicked, IsStocked, Stock, corpus_in, base_posts, is_between, linked_posts}
 use Rattle.cs_file.proofs.HeadsLemmas.{heads_rise}
 use Rattle.cs_engine.proofs.AtomsLemmas.{picked_again}

@@ -6,7 +6,7 @@
 --   bare_entry        an entry without hits and rows
 --   none_based, none_fits     it is in range
 --   bare_is           no document has a facet
-use Rattle.std.proofs.Common.{◌≡◌, ℕ, ◌+◌, ◌*◌, ◌≤◌, zero, suc, Bool, true, false, true≢false, not, List, [], ◌∷◌, length, map, take, refl, sym, ap, ◌∙◌, arith}
+use Rattle.std.proofs.Common.{◌≡◌, ℕ, ◌≤◌, zero, suc, Bool, true, false, true≢false, not, List, [], ◌∷◌, length, map, take, refl, sym, ap, ◌∙◌, arith}
 use Rattle.std.specs.Prelude.{filter}
 use Rattle.std.specs.List.Sorted.{IsStrictlySortedBy}
 use Rattle.std.specs.Ordering.{nat_cmp}
@@ -26,7 +26,7 @@ use Rattle.cs_file.specs.Indexes.{IndexView}
 use Rattle.cs_model.specs.Answers.{PartRows, by_count, is_listed, table_of}
 use Rattle.cs_model.specs.Replies.{FacetShown}
 use Rattle.cs_model.specs.Requests.{shown_of}
-use Rattle.cs_model_kept.specs.Entries.{Entry, EntryOf, entry_after, entry_at, is_hit}
+use Rattle.cs_model_kept.specs.Entries.{Entry, entry_after, is_hit}
 use Rattle.cs_rank.specs.DocScores.{best_row, with_base}
 use Rattle.cs_engine.specs.Keeping.{entry_with}
 use Rattle.cs_engine.specs.Skipping.{bare_facet, lists_none}

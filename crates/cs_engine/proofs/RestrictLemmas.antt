@@ -1,9 +1,9 @@
 -- The rows of a part in some documents.
 --
 --   links_within, chains_within, unions_within
-use Rattle.std.proofs.Common.{◌≡◌, ℕ, ◌==◌, ◌&&◌, ◌||◌, Bool, true, false, List, [], ◌∷◌, ◌++◌, cond, map, refl, sym, ap, ap₂, subst, ◌∙◌}
+use Rattle.std.proofs.Common.{◌≡◌, ℕ, ◌==◌, ◌&&◌, ◌||◌, Bool, true, false, List, [], ◌∷◌, ◌++◌, map, refl, sym, ap, ap₂, ◌∙◌}
 use Rattle.std.specs.Prelude.{filter, flat_map}
-use Rattle.std.specs.List.{AllByRecursion, list_any}
+use Rattle.std.specs.List.{list_any}
 use Rattle.std.proofs.lemmas.Bool.{eqb-true}
 use Rattle.std.proofs.lemmas.List.Elements.{filter-append}
 use Rattle.cs_base.specs.content.Members.{members_in}
@@ -12,7 +12,7 @@ use Rattle.cs_base.specs.declared.content.doc.Row.{Row}
 use Rattle.cs_base.specs.declared.content.query.Link.{Link}
 use Rattle.cs_base.specs.declared.content.query.Link.TheVariants.{Phrase, Near}
 use Rattle.cs_base.proofs.ListsLemmas.{all_of, filter_alike, filter_twice}
-use Rattle.cs_model.specs.Answers.{LinkedRows, chained, is_linked, linked_to, union_of}
+use Rattle.cs_model.specs.Answers.{chained, is_linked, linked_to}
 use Rattle.cs_model_kept.proofs.NarrowLemmas.{members_filter}
 use Rattle.cs_engine.specs.Restricting.{ChainsStayWithin, LinksStayWithin, UnionsStayWithin, rows_where, restricted}
 use Rattle.cs_engine.proofs.AlikeLemmas.{any_filter}

@@ -9,8 +9,8 @@
 --   HitWalk                 after some blocks, of which those that may have a hit were read
 --   hits_begin, hits_go_on, hits_skip, hits_stop, hits_end
 use Rattle.std.proofs.Common.{◌≡◌, ℕ, zero, suc, ◌+◌, ◌-◌, ◌<◌, ◌≤◌, ◌==◌, ◌&&◌, ◌||◌, Bool, true, false, true≢false, cond, List, [], ◌∷◌, ◌++◌}
-use Rattle.std.proofs.Common.{length, get_or, map, take, drop, refl, sym, ap, ap₂, subst, ◌∙◌, arith, length-drop, get_or-drop, Option, Result, Ok, Err, append-nil, inl, inr, ◌^◌}
-use Rattle.std.specs.Prelude.{All, filter, flat_map, nat_le, nat_lt}
+use Rattle.std.proofs.Common.{length, get_or, map, take, drop, refl, sym, ap, subst, ◌∙◌, arith, length-drop, get_or-drop, Option, Ok, append-nil, inl, inr, ◌^◌}
+use Rattle.std.specs.Prelude.{All, filter, nat_le, nat_lt}
 use Rattle.std.specs.List.{AllByRecursion, list_any}
 use Rattle.std.specs.List.Sorted.{IsPartitionedBy, IsPartitionPoint, IsStrictlySortedBy}
 use Rattle.std.specs.declared.cmp.Ordering.TheVariants.{Less}

@@ -1,12 +1,10 @@
 use Rattle.std.proofs.Common.{◌≡◌, ◌<◌, ◌≤◌, ◌&&◌, nat_lt, nat_le, true, false, length, get_or, rules, sym, ap, ◌∙◌, ℕ, map}
 use Rattle.std.proofs.lemmas.List.Sorted.{IsPartitionPoint-from_clause}
-use Rattle.std.specs.List.Sorted.{IsPartitionPoint}
 use Rattle.std.proofs.lemmas.Bool.Decides.{nat_tests}
 use Rattle.std.proofs.Common.{arith}
 use Rattle.cs_base.specs.declared.content.doc.Scored.{Scored}
 use Rattle.cs_model_kept.specs.Sharp.{has_hit}
 use Rattle.cs_engine.proofs.SkippingLemmas.{parted, pointed}
-use Rattle.cs_engine.proofs.bounds.has_hit.Given as given
 use Rattle.cs_engine.proofs.bounds.has_hit.Goals as goal
 use Rattle.cs_engine.proofs.bounds.has_hit.Goals.{After-partition_point-at}
 

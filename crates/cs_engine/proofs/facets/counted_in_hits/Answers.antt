@@ -1,4 +1,4 @@
-use Rattle.std.proofs.Common.{◌≡◌, ◌<◌, ◌≤◌, ◌∙◌, ◌++◌, ap, arith, inl, inr, length, map, subst, sym}
+use Rattle.std.proofs.Common.{◌≡◌, ◌<◌, ◌≤◌, ◌∙◌, ◌++◌, ap, arith, inl, inr, map, subst, sym}
 use Rattle.std.specs.Prelude.{All, filter}
 use Rattle.std.proofs.lemmas.Bool.{cases_eq}
 use Rattle.cs_tables.specs.TableListings.{post_table}

@@ -1,4 +1,4 @@
-use Rattle.std.proofs.Common.{◌≡◌, ◌<◌, ◌∙◌, ap, arith, get_or, inl, inr, sym, subst, true}
+use Rattle.std.proofs.Common.{◌≡◌, ◌∙◌, ap, arith, get_or, inl, inr, sym, subst, true}
 use Rattle.std.proofs.lemmas.Bool.{cases_eq}
 use Rattle.cs_engine.specs.Skipping.{may_hit, no_head}
 use Rattle.cs_engine.proofs.SkippingLemmas.{reached}

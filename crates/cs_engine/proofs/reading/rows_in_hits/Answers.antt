@@ -1,4 +1,4 @@
-use Rattle.std.proofs.Common.{◌∙◌, ◌++◌, ap, length, map, sym, subst, arith}
+use Rattle.std.proofs.Common.{◌∙◌, ◌++◌, ap, map, sym, subst, arith}
 use Rattle.std.specs.Prelude.{All, filter}
 use Rattle.cs_base.specs.declared.content.scores.Weights.{Weights}
 use Rattle.cs_tables.specs.WordCounts.{is_chosen}

@@ -6,7 +6,7 @@ use Rattle.cs_engine.specs.IndexReading.{run_of}
 use Rattle.cs_engine.specs.Skipping.{hit_blocks, hit_met, may_hit}
 use Rattle.cs_engine.proofs.BehindLemmas.{best_found, best_more}
 use Rattle.cs_engine.proofs.PackingLemmas.{held_known}
-use Rattle.cs_engine.proofs.SkippingLemmas.{hits_begin, hits_end, hits_go_on, hits_skip, hits_stop, next_block, nothing_more, read_where, skipped, some_hit}
+use Rattle.cs_engine.proofs.SkippingLemmas.{hits_end, hits_go_on, hits_skip, hits_stop, next_block, nothing_more, read_where, skipped, some_hit}
 use Rattle.cs_engine.proofs.WalkLemmas.{block_fails, fails_behind, hands_on}
 use Rattle.cs_engine.proofs.scored.best_in_blocks.Given as given
 use Rattle.cs_engine.proofs.scored.best_in_blocks.Goals as goal
