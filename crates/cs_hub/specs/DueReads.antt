@@ -31,7 +31,7 @@
 --   IsDue told a e n e'     n reads are due for a request of the engine e with this answer, which leaves the engine e'
 --   AreDue told xs e n e'   the same of requests that are asked one after the other
 --   sharp_due b q e r       the reads due for a request of the engine e with this answer, over the bytes b, without blocks that no hit reaches
---   sharp_sum b xs due    their sum for requests that are asked one after the other
+--   sharp_sum b xs due      their sum for requests that are asked one after the other
 --   HasMemory xs            none of the answers is want of memory
 --   SentBefore c goes b xs  behind a response that wasn't sent whole on the connection c nothing was asked of the bytes b; where it
 --                           goes on each head has its response
