@@ -7,7 +7,7 @@
 --   AsksBy                  what a turn asked, by what it gave
 --   StaysAnswering          what every call keeps of what answers requests
 --   LeavesIndex             what every call keeps of an engine and its store
---   Standing                an engine over its store, as it stands between requests
+--   Standing, standing      an engine over its store, as it stands between requests
 --   EngineLeaves s q r t    a request was asked of an engine over its store
 use Rattle.std.specs.Prelude.{◌≡◌, ◌≤◌, ℕ, Bool, true, false, List, [], ◌∷◌, ◌++◌, length, drop, Option, Result}
 use Rattle.cs_base.specs.outside.Causes.{ReadsWithin}
@@ -88,6 +88,10 @@ pub record Standing : Type 0 where
   pub engine : EngineView
   pub reads : ℕ
   pub faults : ℕ
+
+-- the same, one after the other
+abbrev pub standing : Option (List ℕ) → EngineView → ℕ → ℕ → Standing
+standing told e reads faults = record { told = told; engine = e; reads = reads; faults = faults }
 
 -- no more is read than is due, and a failed read is told where the count of failures rose
 pub record EngineLeaves (s : Standing) (q : Request) (r : Result Reply FetchFault) (t : Standing) : Type 0 where
