@@ -1,3 +1,5 @@
+use Rattle.std.proofs.Common.{rules}
+use Rattle.cs_query.specs.RequestView.{asked}
 use Rattle.cs_top.specs.Answering.{bytes_there}
 use Rattle.cs_top.specs.HitForms.{form_by}
 use Rattle.cs_top.proofs.AnswerLemmas.{change_line, changed_put, read_is, refusal_is, refusal_put, reply_is, reply_put}
@@ -14,7 +16,7 @@ pub returns-in-Replied-clause-text : goal.returns-in-Replied-clause-text
 returns-in-Replied-clause-text g c k over =
     let may = c.in-Replied.ensures.outcome in
     let line = c.text_or_memory.ensures in
-    reply_is c.args.showing.now c.args.file.now k c.args.line.now _ c.in-Replied.reply c.reply_line.result c.text_or_memory.result may.0 may.1 (c.in-Replied.ensures.right k over) line.text line.memory c.reply_line.ensures
+    reply_is c.args.showing.now c.args.file.now k c.args.line.now (asked c.in-Replied.request) c.in-Replied.reply c.reply_line.result c.text_or_memory.result may.0 may.1 (c.in-Replied.ensures.right k over) line.text line.memory c.reply_line.ensures
 
 pub returns-in-Read-clause-text : goal.returns-in-Read-clause-text
 returns-in-Read-clause-text g c k over =
@@ -38,7 +40,7 @@ returns-in-Refused-clause-texts g c =
 pub returns-in-Replied-clause-texts : goal.returns-in-Replied-clause-texts
 returns-in-Replied-clause-texts g c =
     let line = c.text_or_memory.ensures in
-    reply_put c.args.showing.now _ c.in-Replied.reply c.reply_line.result c.text_or_memory.result line.text line.memory c.reply_line.ensures
+    reply_put c.args.showing.now c.in-Replied.request.query c.in-Replied.reply c.reply_line.result c.text_or_memory.result line.text line.memory c.reply_line.ensures
 
 pub returns-in-Read-clause-texts : goal.returns-in-Read-clause-texts
 returns-in-Read-clause-texts g c = read_put (form_by c.args.showing.now)
@@ -48,9 +50,6 @@ returns-in-Changed-clause-texts g c = changed_put (form_by c.args.showing.now) c
 
 pub returns-in-Memory-clause-texts : goal.returns-in-Memory-clause-texts
 returns-in-Memory-clause-texts g c = memory_put (form_by c.args.showing.now)
-
-pub returns-in-Refused-clause-changed : goal.returns-in-Refused-clause-changed
-returns-in-Refused-clause-changed g c = search rules
 
 pub returns-in-Changed-clause-changed : goal.returns-in-Changed-clause-changed
 returns-in-Changed-clause-changed g c =
