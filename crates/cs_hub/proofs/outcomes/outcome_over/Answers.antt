@@ -1,4 +1,4 @@
-use Rattle.std.proofs.Common.{ap, refl, rules, ◌∙◌}
+use Rattle.std.proofs.Common.{ap, rules, ◌∙◌}
 use Rattle.cs_model_index.specs.Sections.{file_corpus}
 use Rattle.cs_hub.specs.Asked.{EngineLeaves, standing}
 use Rattle.cs_hub.proofs.AskedLemmas.{stands_so}
