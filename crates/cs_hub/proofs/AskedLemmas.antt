@@ -20,7 +20,7 @@
 --   asks_counted, asks_of_line    the bytes of a piece that count, and of a connection that is kept
 --   sent_open, refused_close      what is known of a response by what was sent
 --   few_titles, read_in           one answer of an engine
---   standing, stands_so           how an engine stands
+--   stands_so                     how an engine stands
 --   within_due, within_for        an engine asked so reads no more than is due
 use Rattle.std.proofs.Common.{◌≡◌, ℕ, ◌+◌, ◌-◌, ◌≤◌, Bool, true, false, List, [], ◌∷◌, ◌++◌, length, take, drop, slice_range, refl, sym, ◌∙◌, ap, ap₂, subst}
 use Rattle.std.proofs.Common.{arith, append_assoc, append-nil, inl, inr, length-append}
@@ -57,7 +57,7 @@ use Rattle.cs_model_serving.specs.Connections.{Left}
 use Rattle.cs_model_serving.specs.Framing.{frame}
 use Rattle.cs_model_serving.specs.Heads.{Judgement, asks, judge}
 use Rattle.cs_model_serving.specs.Responses.{Response, all_bytes, memory_bytes, response_bytes, too_long}
-use Rattle.cs_hub.specs.Asked.{InTurn, AsksOf, AsksAsSent, AsksAlong, AsksBy, Standing, EngineLeaves}
+use Rattle.cs_hub.specs.Asked.{InTurn, AsksOf, AsksAsSent, AsksAlong, AsksBy, Standing, EngineLeaves, standing}
 use Rattle.cs_hub.specs.DueReads.{Answered, AnswersWithin, AreDue, HasMemory, IsDue, SentAt, SentBefore, bytes_behind, bytes_to_answer, closes_behind, goes_on}
 use Rattle.cs_hub.specs.DueReads.{AreResponsesBy, IsPartOf, IsResponseBy, IsRest, IsTextBy, IsWholeBy, SentBy, heads_on, read_failures, is_want, reply_in, requests_by, requests_in, requests_of, requests_on, requests_to, sharp_due, sharp_sum}
 use Rattle.cs_hub.specs.HubFollowing.{Lefts, left_at}
@@ -643,9 +643,6 @@ sum_of told (a ∷ xs) s t e h =
       rose = rose_both (cond (is_read a.1) 1 0) (read_failures xs) s.faults h.0.faults t.faults
           (caused_rose (is_read a.1) s.faults h.0.faults h.1.caused) others.rose;
     }
-
-abbrev pub standing : Option (List ℕ) → EngineView → ℕ → ℕ → Standing
-standing told e reads faults = record { told = told; engine = e; reads = reads; faults = faults }
 
 pub stands_so : (b b' : Option (List ℕ)) (e e' : EngineView) (m m' n n' : ℕ) → b ≡ b' → e ≡ e' → m ≡ m' → n ≡ n' → standing b e m n ≡ standing b' e' m' n'
 stands_so b b' e e' m m' n n' h i j k = ap (λ x. standing x e m n) h ∙ ap (λ x. standing b' x m n) i ∙ ap (λ x. standing b' e' x n) j ∙ ap (standing b' e' m') k

@@ -7,7 +7,7 @@
 --   AsksBy                  what a turn asked, by what it gave
 --   StaysAnswering          what every call keeps of what answers requests
 --   LeavesIndex             what every call keeps of an engine and its store
---   Standing                an engine over its store, as it stands between requests
+--   Standing, standing      an engine over its store, as it stands between requests
 --   EngineLeaves s q r t    a request was asked of an engine over its store
 use Rattle.std.specs.Prelude.{◌≡◌, ◌≤◌, ℕ, Bool, true, false, List, [], ◌∷◌, ◌++◌, length, drop, Option, Result}
 use Rattle.std.specs.Option.{ForSome}
@@ -89,6 +89,10 @@ pub record Standing : Type 0 where
   pub engine : EngineView
   pub reads : ℕ
   pub faults : ℕ
+
+-- the same, one after the other
+abbrev pub standing : Option (List ℕ) → EngineView → ℕ → ℕ → Standing
+standing told e reads faults = record { told = told; engine = e; reads = reads; faults = faults }
 
 -- no more is read than is due, and where the store tells the bytes of the index and what is kept is good, no block that no hit reaches;
 -- a failed read is told where the count of failures rose

@@ -3,7 +3,7 @@
 --   puts_none, puts_more     for no lines, and for one more
 --   puts_cut, nothing_put    where the script ends at a line, or before the first one
 --   puts_some                of any lines
---   memory_put, read_put, text_put, change_put     an answer has a text by what comes of its line
+--   memory_put, read_put, text_put     an answer has a text by what comes of its line
 --   line_puts, line_cuts     a line whose answer was put, and one whose answer wasn't put whole
 use Rattle.std.proofs.Common.{◌≡◌, ◌≢◌, ◌⊎◌, ℕ, List, [], ◌∷◌, ◌++◌, Contains, inl, inr, refl, sym, ◌∙◌, ap, subst, Vec, Global}
 use Rattle.std.specs.Prelude.{Option, Some, None, Result, Ok, Err, IfOk, IfErr, OnOk, OnErr}
@@ -133,11 +133,6 @@ read_put form = (read_text, refl, refl)
 pub text_put : (form : HitForm) (r : Result (Vec ℕ Global) Memory) (a : Answer) (u : List ℕ) → IfOk r (λ b. a ≡ answers.Text b) → OnErr r (a ≡ answers.Memory) → IfOk r (λ b. b.items ≡ u ++ 10 ∷ []) → OnOk r (IsOwnText form u) → HasTextBy form a
 text_put form (Ok b) a u whole none is own = subst (HasTextBy form) (sym whole) (u, is, own)
 text_put form (Err e) a u whole none is own = subst (HasTextBy form) (sym none) (memory_put form)
-
--- that of a change, or without memory for it that of want of memory
-pub change_put : (form : HitForm) (o : Option (Vec ℕ Global)) (rule at : ℕ) → ForSome o (λ b. b.items ≡ changed_text rule at ++ 10 ∷ []) → HasTextBy form (answers.Changed o)
-change_put form None rule at h = (memory_text, refl, inr refl)
-change_put form (Some b) rule at h = (changed_text rule at, h b refl, inl (rule, at, refl))
 
 module _ (form : HitForm) (a : Answer) (h : HasTextBy form a) where
   pub line_puts : {E : Type 0} (r : Result WhatCame E) (old new : Option (List ℕ)) → OnOk r (Grew old (line_bytes a) new) → IfOk r (λ c. c ≡ came_of_answer a) → IfOk r (λ came. PutsLine form came old new)
