@@ -19,7 +19,7 @@
 --   along_start, along_next, along_hold, along_rest, along_stop    the way through the bytes
 --   asks_counted, asks_of_line    the bytes of a piece that count, and of a connection that is kept
 --   sent_open, refused_close      what is known of a response by what was sent
---   few_titles, read_in           one answer of an engine
+--   few_titles, read_in, same_refusal      one answer of an engine
 --   stands_so                     how an engine stands
 --   within_due, within_for        an engine asked so reads no more than is due
 use Rattle.std.proofs.Common.{◌≡◌, ℕ, ◌+◌, ◌-◌, ◌≤◌, Bool, true, false, List, [], ◌∷◌, ◌++◌, length, take, drop, slice_range, refl, sym, ◌∙◌, ap, ap₂, subst}
@@ -30,7 +30,7 @@ use Rattle.std.proofs.lemmas.Grind.{flat_map-append}
 use Rattle.std.proofs.lemmas.List.{take_all}
 use Rattle.std.proofs.lemmas.List.Elements.{All-append, All-cons, All-nil}
 use Rattle.std.specs.Option.{ForSome}
-use Rattle.std.specs.Result.{IsErr}
+use Rattle.std.specs.Result.{IsErr, IsErrAnd}
 use Rattle.std.specs.FinMap as map
 use Rattle.cs_base.specs.declared.content.limits.TheConstants.{MAX_CONNECTION_BYTES}
 use Rattle.cs_base.specs.declared.memory.Memory.{Memory}
@@ -599,7 +599,7 @@ caused_rose true before now h = rose_one before now (h.failed refl)
 caused_rose false before now h = rose_none before now h.later
 
 -- the same where the store tells these bytes
-due_where : (told told' : Option (List ℕ)) → told ≡ told' → (a : Answered) (old : EngineView) (n : ℕ) (new : EngineView) → IsDue told a old n new
+abbrev due_where : (told told' : Option (List ℕ)) → told ≡ told' → (a : Answered) (old : EngineView) (n : ℕ) (new : EngineView) → IsDue told a old n new
     → IsDue told' a old n new
 due_where told told' e a old n new h = record {
   answer = h.answer;
@@ -618,7 +618,7 @@ pub record SumOf (told : Option (List ℕ)) (xs : List Answered) (s t : Standing
   pub n : ℕ
   pub are_due : AreDue told xs s.engine n t.engine
   pub reads : ReadsWithin n s.reads t.reads
-  pub sharp : ForSome told (λ b. StandsFor b s.engine.index → AreGood b s.engine → ReadsWithin (sharp_sum b xs s.engine n t.engine are_due) s.reads t.reads)
+  pub sharp : ForSome told (λ b. StandsFor b s.engine.index → AreGood b s.engine → ReadsWithin (sharp_sum told b xs s.engine n t.engine are_due) s.reads t.reads)
   pub rose : RoseBy (read_failures xs) s.faults t.faults
 
 sum_of : (told : Option (List ℕ)) (xs : List Answered) (s t : Standing) → s.told ≡ told → InTurn EngineLeaves xs s t → SumOf told xs s t
@@ -638,7 +638,7 @@ sum_of told (a ∷ xs) s t e h =
       reads = reads_both h.1.n others.n s.reads h.0.reads t.reads h.1.reads others.reads;
       sharp = λ b is stands good.
           let right = h.1.is_due.right b (e ∙ is) stands good in
-          reads_both (sharp_due b a.0 s.engine h.1.is_due.answer) (sharp_sum b xs h.0.engine others.n t.engine others.are_due) s.reads h.0.reads t.reads
+          reads_both (sharp_due b a.0 s.engine h.1.is_due.answer) (sharp_sum told b xs h.0.engine others.n t.engine others.are_due) s.reads h.0.reads t.reads
           (h.1.sharp b (e ∙ is) stands good) (others.sharp b is (subst (StandsFor b) (sym h.1.is_due.index) stands) right.good);
       rose = rose_both (cond (is_read a.1) 1 0) (read_failures xs) s.faults h.0.faults t.faults
           (caused_rose (is_read a.1) s.faults h.0.faults h.1.caused) others.rose;
@@ -702,3 +702,8 @@ read_in (Ok x) = refl
 read_in (Err refusals.Read) = refl
 read_in (Err (refusals.Changed rule at)) = refl
 read_in (Err refusals.Memory) = refl
+
+pub same_refusal : (answer : Result (Reply × Note) FetchFault) (e : FetchFault) (r : Result Reply FetchFault) → answer ≡ Err e → IsErrAnd r (λ x. x ≡ e)
+    → r ≡ reply_in answer
+same_refusal answer e (Ok x) was is = absurd is
+same_refusal answer e (Err x) was is = ap Err is ∙ sym (ap reply_in was)

@@ -29,25 +29,25 @@ good_due told (x ∷ xs) old n new h b is stands good =
 
 module _ (told : Option (List ℕ)) (b : List ℕ) (new : EngineView) where
   pub sum_by_list : (old : EngineView) (n : ℕ) {xs ys : List Answered} (e : xs ≡ ys) (h : AreDue told xs old n new)
-      → sharp_sum b ys old n new (subst (λ l. AreDue told l old n new) e h) ≡ sharp_sum b xs old n new h
+      → sharp_sum told b ys old n new (subst (λ l. AreDue told l old n new) e h) ≡ sharp_sum told b xs old n new h
   sum_by_list old n {xs} e h =
-      path_j (λ ys p. sharp_sum b ys old n new (subst (λ l. AreDue told l old n new) p h) ≡ sharp_sum b xs old n new h)
-      (ap (λ d. sharp_sum b xs old n new d) (subst_refl (λ l. AreDue told l old n new) h)) e
+      path_j (λ ys p. sharp_sum told b ys old n new (subst (λ l. AreDue told l old n new) p h) ≡ sharp_sum told b xs old n new h)
+      (ap (λ d. sharp_sum told b xs old n new d) (subst_refl (λ l. AreDue told l old n new) h)) e
 
   sum_by_old : (xs : List Answered) (n : ℕ) {old mid : EngineView} (e : old ≡ mid) (h : AreDue told xs old n new)
-      → sharp_sum b xs mid n new (subst (λ o. AreDue told xs o n new) e h) ≡ sharp_sum b xs old n new h
+      → sharp_sum told b xs mid n new (subst (λ o. AreDue told xs o n new) e h) ≡ sharp_sum told b xs old n new h
   sum_by_old xs n {old} e h =
-      path_j (λ mid p. sharp_sum b xs mid n new (subst (λ o. AreDue told xs o n new) p h) ≡ sharp_sum b xs old n new h)
-      (ap (λ d. sharp_sum b xs old n new d) (subst_refl (λ o. AreDue told xs o n new) h)) e
+      path_j (λ mid p. sharp_sum told b xs mid n new (subst (λ o. AreDue told xs o n new) p h) ≡ sharp_sum told b xs old n new h)
+      (ap (λ d. sharp_sum told b xs old n new d) (subst_refl (λ o. AreDue told xs o n new) h)) e
 
   sum_by_count : (xs : List Answered) (old : EngineView) {m n : ℕ} (e : m ≡ n) (h : AreDue told xs old m new)
-      → sharp_sum b xs old n new (subst (λ i. AreDue told xs old i new) e h) ≡ sharp_sum b xs old m new h
+      → sharp_sum told b xs old n new (subst (λ i. AreDue told xs old i new) e h) ≡ sharp_sum told b xs old m new h
   sum_by_count xs old {m} e h =
-      path_j (λ n p. sharp_sum b xs old n new (subst (λ i. AreDue told xs old i new) p h) ≡ sharp_sum b xs old m new h)
-      (ap (λ d. sharp_sum b xs old m new d) (subst_refl (λ i. AreDue told xs old i new) h)) e
+      path_j (λ n p. sharp_sum told b xs old n new (subst (λ i. AreDue told xs old i new) p h) ≡ sharp_sum told b xs old m new h)
+      (ap (λ d. sharp_sum told b xs old m new d) (subst_refl (λ i. AreDue told xs old i new) h)) e
 
   pub sum_both : (xs ys : List Answered) (old mid : EngineView) (m n : ℕ) (h : AreDue told xs old m mid) (k : AreDue told ys mid n new)
-      → sharp_sum b (xs ++ ys) old (m + n) new (due_both told xs ys old mid new m n h k) ≡ sharp_sum b xs old m mid h + sharp_sum b ys mid n new k
+      → sharp_sum told b (xs ++ ys) old (m + n) new (due_both told xs ys old mid new m n h k) ≡ sharp_sum told b xs old m mid h + sharp_sum told b ys mid n new k
   sum_both [] ys old mid m n h k =
       let e = none_more m n h.0 in
       sum_by_old ys (m + n) h.1 (subst (λ i. AreDue told ys mid i new) e k) ∙ sum_by_count ys mid e k

@@ -31,7 +31,7 @@
 --   IsDue told a e n e'     n reads are due for a request of the engine e with this answer, which leaves the engine e'
 --   AreDue told xs e n e'   the same of requests that are asked one after the other
 --   sharp_due b q e r       the reads due for a request of the engine e with this answer, over the bytes b, without blocks that no hit reaches
---   sharp_sum b xs due      their sum for requests that are asked one after the other
+--   sharp_sum told b xs     their sum for requests that are asked one after the other
 --   HasMemory xs            none of the answers is want of memory
 --   SentBefore c goes b xs  behind a response that wasn't sent whole on the connection c nothing was asked of the bytes b; where it
 --                           goes on each head has its response
@@ -191,10 +191,10 @@ abbrev pub sharp_due : List ℕ → Request → EngineView → Result (Reply × 
 sharp_due b q old answer = sharp (division old.index) (file_corpus b) q (note_plan q.query old.answers) (titles_asked q answer)
 
 -- by the plans and titles that are due; 0 for none
-abbrev pub sharp_sum : {told : Option (List ℕ)} (b : List ℕ) (xs : List Answered) (old : EngineView) (n : ℕ) (new : EngineView)
+abbrev pub sharp_sum : (told : Option (List ℕ)) (b : List ℕ) (xs : List Answered) (old : EngineView) (n : ℕ) (new : EngineView)
     → AreDue told xs old n new → ℕ
-sharp_sum b [] old n new due = 0
-sharp_sum b (a ∷ xs) old n new due = sharp_due b a.0 old due.4.answer + sharp_sum b xs due.2 due.1 new due.5
+sharp_sum told b [] old n new h = 0
+sharp_sum told b (a ∷ xs) old n new h = sharp_due b a.0 old h.4.answer + sharp_sum told b xs h.2 h.1 new h.5
 
 -- ---- between answers
 -- of no answers none is
@@ -278,6 +278,6 @@ pub record AnswersWithin (told : Option (List ℕ)) (whole : Bool) (qs : List Re
   pub n : ℕ
   pub are_due : AreDue told answered old n new
   pub reads : ReadsWithin n before now
-  pub sharp : ForSome told (λ b. StandsFor b old.index → AreGood b old → ReadsWithin (sharp_sum b answered old n new are_due) before now)
+  pub sharp : ForSome told (λ b. StandsFor b old.index → AreGood b old → ReadsWithin (sharp_sum told b answered old n new are_due) before now)
   pub rose : RoseBy (read_failures answered) failed failed'
   pub sent : Sent answered

@@ -60,7 +60,7 @@ pub record AsksInAll (told : Option (List ℕ)) (old new : EngineView) (before n
   pub n : ℕ
   pub are_due : AreDue told (all_answers asked) old n new
   pub reads : ReadsWithin n before now
-  pub sharp : ForSome told (λ b. StandsFor b old.index → AreGood b old → ReadsWithin (sharp_sum b (all_answers asked) old n new are_due) before now)
+  pub sharp : ForSome told (λ b. StandsFor b old.index → AreGood b old → ReadsWithin (sharp_sum told b (all_answers asked) old n new are_due) before now)
   pub rose : RoseBy (read_failures (all_answers asked)) failed failed'
   pub each : ForSome talk (λ t. (c : ℕ) → HasAskedOn (came_within c t.came) (sent_on t c) (set.contains t.broken c) (by_conn c asked))
 
