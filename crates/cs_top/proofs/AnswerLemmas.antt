@@ -4,9 +4,7 @@
 --   passes          a line whose answer was put is passed
 --   stops_there     a line whose answer wasn't put whole ends the script
 --   line_ok, line_err        the same of the result of putting it
---   refusal_is, reply_is, read_is     a refusal, a reply and a failed read as the text of the line
---   refusal_put, reply_put, changed_put     over any files: the text of a refusal, of a reply and of a changed index file
---   change_line     the last names the rule and its place
+--   said_came       what came of it, as the result of putting it says
 use Rattle.std.proofs.Common.{◌≡◌, ◌≢◌, ◌==◌, ◌∙◌, ℕ, ◌≤◌, true, false, List, [], ◌∷◌, ◌++◌, length, inl, inr, refl, sym, ap, subst, Vec, Global}
 use Rattle.std.specs.Prelude.{Option, Some, None, is_some, Result, Ok, Err, OnOk, OnErr, IfOk, IfErr}
 use Rattle.std.specs.Result.{result_ok}
@@ -42,7 +40,6 @@ use Rattle.cs_top.specs.declared.script.answers.Answer.{Answer}
 use Rattle.cs_top.specs.declared.script.answers.Answer.TheVariants as answers
 use Rattle.cs_top.specs.declared.words.HitForm.{HitForm}
 use Rattle.cs_top.proofs.LineTexts.{refused_own}
-use Rattle.cs_top.proofs.PutTextLemmas.{text_put}
 use Rattle.cs_top.proofs.ShownLemmas.{memory_shown, refused_shown, reply_in, reply_shown}
 use Rattle.cs_top.proofs.TextsApart.{memory_apart, own_unread, replied_apart}
 
@@ -90,49 +87,3 @@ said_came (Err e) a P is p = tt
 pub some_bytes : (l : List ℕ) → false ≡ (length l == 0) → l ≢ []
 some_bytes [] h e = absurd cc
 some_bytes (b ∷ l) h e = absurd cc
-
--- a refusal, as the answer to its line; without memory for its text that of want of memory
-pub refusal_is : (docs : AtHand) (f : FileView) (k : Corpus) (p : List ℕ) (e : ReqFault) (r : Result (Vec ℕ Global) Memory) (a : Answer) → IsCause p e → e ≢ causes.Memory → IfOk r (λ b. a ≡ answers.Text b) → OnErr r (a ≡ answers.Memory)
-    → IfOk r (λ b. b.items ≡ fault_text (faults.Refused e) ++ 10 ∷ []) → HasText (MayAnswer docs f k) p a
-refusal_is docs f k p e (Ok b) a cause other whole none is =
-    subst (HasText (MayAnswer docs f k) p) (sym whole) (fault_text (faults.Refused e), is, inl (refused_shown docs k p e cause other), own_unread (form_by docs) (fault_text (faults.Refused e)) (refused_own (form_by docs) e other))
-refusal_is docs f k p e (Err x) a cause other whole none is = subst (HasText (MayAnswer docs f k) p) (sym none) tt
-
--- a reply, as the answer to its line
-pub reply_is : (docs : AtHand) (f : FileView) (k : Corpus) (p : List ℕ) (q : Request) (x : Reply) (r : Result (Vec ℕ Global) Memory) (a : Answer) → request_refusal p ≡ None → q ≡ request_of p → x ≡ reply_of k (request_of p) → IfOk r (λ b. a ≡ answers.Text b)
-    → OnErr r (a ≡ answers.Memory) → IfOk r (λ b. b.items ≡ shown_reply docs q.query x ++ 10 ∷ []) → HasText (MayAnswer docs f k) p a
-reply_is docs f k p q x (Ok b) a accepted asks right whole none is =
-    let t = shown_reply docs q.query (reply_of k q) in
-    let same : shown_reply docs q.query x ≡ t = ap (shown_reply docs q.query) (right ∙ ap (reply_of k) (sym asks)) in
-    subst (HasText (MayAnswer docs f k) p) (sym whole)
-    (t, is ∙ ap (λ u. u ++ 10 ∷ []) same, inl (reply_shown docs k p q accepted asks), replied_apart (form_by docs) t (reply_in docs q.query (reply_of k q)))
-reply_is docs f k p q x (Err e) a accepted asks right whole none is = subst (HasText (MayAnswer docs f k) p) (sym none) tt
-
-none_there : (o : Option (List ℕ)) → (is_some o ≡ true → ⊥) → o ≡ None
-none_there None never = refl
-none_there (Some b) never = absurd (never refl)
-
--- a failed read, which doesn't come over a file in memory
-pub read_is : (docs : AtHand) (f : FileView) (k : Corpus) (p : List ℕ) → request_refusal p ≡ None → (is_some f.made ≡ true → ⊥) → HasText (MayAnswer docs f k) p answers.Read
-read_is docs f k p accepted never = inr (none_there f.made never, accepted, refl)
-
--- ---- over any files
-pub refusal_put : (form : HitForm) (e : ReqFault) (r : Result (Vec ℕ Global) Memory) (a : Answer) → e ≢ causes.Memory → IfOk r (λ b. a ≡ answers.Text b) → OnErr r (a ≡ answers.Memory) → IfOk r (λ b. b.items ≡ fault_text (faults.Refused e) ++ 10 ∷ []) → HasTextBy form a
-refusal_put form e (Ok b) a other whole none is = text_put form (Ok b) a (fault_text (faults.Refused e)) whole none is (refused_own form e other)
-refusal_put form e (Err x) a other whole none is = text_put form (Err x) a (fault_text (faults.Refused e)) whole none is tt
-
-pub reply_put : (docs : AtHand) (q : Query) (p : Reply) (r : Result (Vec ℕ Global) Memory) (a : Answer) → IfOk r (λ b. a ≡ answers.Text b) → OnErr r (a ≡ answers.Memory) → IfOk r (λ b. b.items ≡ shown_reply docs q p ++ 10 ∷ []) → HasTextBy (form_by docs) a
-reply_put docs q p (Ok b) a whole none is = text_put (form_by docs) (Ok b) a (shown_reply docs q p) whole none is (inl (reply_in docs q p))
-reply_put docs q p (Err x) a whole none is = text_put (form_by docs) (Err x) a (shown_reply docs q p) whole none is tt
-
--- that of a change, or without memory for it that of want of memory
-pub changed_put : (form : HitForm) (rule at : ℕ) (r : Result (Vec ℕ Global) Memory) (o : Option (Vec ℕ Global)) → o ≡ result_ok r → IfOk r (λ b. b.items ≡ fault_text (faults.Changed rule at) ++ 10 ∷ []) → HasTextBy form (answers.Changed o)
-unfolding fault_text
-changed_put form rule at (Ok b) o is h = subst (λ x. HasTextBy form (answers.Changed x)) (sym is) (changed_text rule at, h, inl (rule, at, refl))
-changed_put form rule at (Err e) o is h = subst (λ x. HasTextBy form (answers.Changed x)) (sym is) (memory_text, refl, inr refl)
-
-pub change_line : (i : IndexView) (told : Option (List ℕ)) (rule at : ℕ) (r : Result (Vec ℕ Global) Memory) (o : Option (Vec ℕ Global)) → BreaksIndex i told rule at → o ≡ result_ok r → IfOk r (λ b. b.items ≡ fault_text (faults.Changed rule at) ++ 10 ∷ [])
-    → IsChangeLine i told (answers.Changed o)
-unfolding fault_text
-change_line i told rule at (Ok b) o broken is h = subst (λ x. IsChangeLine i told (answers.Changed x)) (sym is) (rule, at, broken, h)
-change_line i told rule at (Err e) o broken is h = subst (λ x. IsChangeLine i told (answers.Changed x)) (sym is) tt

@@ -5,6 +5,7 @@ pub mod CompleteLemmas
 pub mod CommandLineExamples
 pub mod LineTexts
 pub mod MemoryText
+pub mod OutcomeTextLemmas
 pub mod OverLemmas
 pub mod PutTextLemmas
 pub mod SaysLemmas

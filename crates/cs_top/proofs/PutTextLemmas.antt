@@ -3,7 +3,6 @@
 --   puts_none, puts_more     for no lines, and for one more
 --   puts_cut, nothing_put    where the script ends at a line, or before the first one
 --   puts_some                of any lines
---   memory_put, read_put, text_put     an answer has a text by what comes of its line
 --   line_puts, line_cuts     a line whose answer was put, and one whose answer wasn't put whole
 use Rattle.std.proofs.Common.{◌≡◌, ◌≢◌, ◌⊎◌, ℕ, List, [], ◌∷◌, ◌++◌, Contains, inl, inr, refl, sym, ◌∙◌, ap, subst, Vec, Global}
 use Rattle.std.specs.Prelude.{Option, Some, None, Result, Ok, Err, IfOk, IfErr, OnOk, OnErr}
@@ -123,17 +122,6 @@ module _ (form : HitForm) (came : WhatCame) (old now : Option (List ℕ)) (first
   puts_cut (merge_refused r) p cut = absurd cut
 
 -- ---- one line
-pub memory_put : (form : HitForm) → HasTextBy form answers.Memory
-memory_put form = (memory_text, refl, inr (inr refl))
-
-pub read_put : (form : HitForm) → HasTextBy form answers.Read
-read_put form = (read_text, refl, refl)
-
--- a text of its own, or without memory for it that of want of memory
-pub text_put : (form : HitForm) (r : Result (Vec ℕ Global) Memory) (a : Answer) (u : List ℕ) → IfOk r (λ b. a ≡ answers.Text b) → OnErr r (a ≡ answers.Memory) → IfOk r (λ b. b.items ≡ u ++ 10 ∷ []) → OnOk r (IsOwnText form u) → HasTextBy form a
-text_put form (Ok b) a u whole none is own = subst (HasTextBy form) (sym whole) (u, is, own)
-text_put form (Err e) a u whole none is own = subst (HasTextBy form) (sym none) (memory_put form)
-
 module _ (form : HitForm) (a : Answer) (h : HasTextBy form a) where
   pub line_puts : {E : Type 0} (r : Result WhatCame E) (old new : Option (List ℕ)) → OnOk r (Grew old (line_bytes a) new) → IfOk r (λ c. c ≡ came_of_answer a) → IfOk r (λ came. PutsLine form came old new)
   line_puts (Ok x) old new g is = subst (λ y. PutsLine form y old new) (sym is) (inr (h.0, h.2, subst (λ b. Grew old b new) h.1 g))

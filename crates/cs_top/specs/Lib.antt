@@ -7,6 +7,7 @@ pub mod HitForms
 pub mod Import
 pub mod Merge
 pub mod Met
+pub mod OutcomeTexts
 pub mod PutTexts
 pub mod ScriptEndings
 pub mod ScriptRuns

@@ -9,6 +9,7 @@ ghost use Rattle.cs_top.specs.CommandLine.{CausedBy};
 ghost use Rattle.cs_top.specs.HitForms.{form_by, shown_reply};
 ghost use Rattle.cs_top.specs.declared.script.answers.Answer.TheVariants as answers;
 ghost use Rattle.cs_top.specs.Met.{wrote};
+ghost use Rattle.cs_top.specs.OutcomeTexts.{IsAnswerBy};
 ghost use Rattle.cs_top.specs.PutTexts.{CutsLine, HasTextBy, IsChangeLine, PutsLine};
 ghost use Rattle.cs_top.specs.ScriptEndings.{Passes, StopsAt};
 ghost use Rattle.cs_top.specs.Views.{of_script, stop_ending};
@@ -142,8 +143,16 @@ fn answer_params<F: Files>(
     ensures changed { IsChangeLine engine.old.index (bytes_there file.old (F.held files.old)) result }
     ensures over { StaysOver engine.old engine.new file.old file.new (F.held files.old) (F.held files.new) }
 {
+    let outcome = outcome_over_file(showing.alloc, engine, file, files, line);
+    answer_by(showing, outcome)
+}
+
+// What is put where this came of parameters.
+fn answer_by(showing: &Showing<'_>, outcome: RequestOutcome) -> Answer
+    ensures { IsAnswerBy showing.now outcome result }
+{
     let alloc = showing.alloc;
-    match outcome_over_file(alloc, engine, file, files, line) {
+    match outcome {
         RequestOutcome::Refused(fault) => {
             text_or_memory(fault_line(alloc, &Fault::Refused(fault)))
         }
