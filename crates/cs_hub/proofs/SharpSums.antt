@@ -10,7 +10,7 @@ use Rattle.std.proofs.Math.Path.{path_j, subst_refl}
 use Rattle.std.specs.Prelude.{Option, Some}
 use Rattle.cs_engine.specs.Keeping.{AreGood, EngineView}
 use Rattle.cs_file.specs.Indexes.{StandsFor}
-use Rattle.cs_hub.specs.DueReads.{Answered, AreDue, sharp_due, sharp_sum}
+use Rattle.cs_hub.specs.DueReads.{Answered, AreDue, sharp_sum}
 
 pub none_more : (m n : ℕ) → m ≡ 0 → n ≡ m + n
 none_more m n e = omega (arith, e)
