@@ -26,9 +26,9 @@ returns-in_err-reply-clause-asked g c =
         unchanged = c.ask.ensures.unchanged;
         changed = c.ask.ensures.changed;
         right = λ b told stands good. record {
-            right = c.ask.ensures.ok b told stands good;
-            after = c.ask.ensures.after b told stands good;
-            good = c.ask.ensures.good b told stands good;
+          right = c.ask.ensures.ok b told stands good;
+          after = c.ask.ensures.after b told stands good;
+          good = c.ask.ensures.good b told stands good;
         };
         sum = refl;
       };
@@ -56,9 +56,9 @@ returns-clause-asked g c =
         unchanged = c.ask.ensures.unchanged;
         changed = c.ask.ensures.changed;
         right = λ b told stands good. record {
-            right = c.ask.ensures.ok b told stands good;
-            after = c.ask.ensures.after b told stands good;
-            good = c.ask.ensures.good b told stands good;
+          right = c.ask.ensures.ok b told stands good;
+          after = c.ask.ensures.after b told stands good;
+          good = c.ask.ensures.good b told stands good;
         };
         sum = refl;
       };
