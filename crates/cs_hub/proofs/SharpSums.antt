@@ -1,5 +1,6 @@
 -- What is read of requests that are asked one after the other, also without blocks that no hit reaches.
 --
+--   none_more        a count behind none
 --   due_both         what is due for requests behind requests
 --   good_due         behind them the bytes still stand for the index, and what is kept is good
 --   sum_by_list, sum_by_old, sum_by_count     the sum for equal requests, of an equal engine and by an equal count
@@ -9,12 +10,12 @@ use Rattle.std.proofs.Math.Path.{path_j, subst_refl}
 use Rattle.std.specs.Prelude.{Option, Some}
 use Rattle.cs_engine.specs.Keeping.{AreGood, EngineView}
 use Rattle.cs_file.specs.Indexes.{StandsFor}
-use Rattle.cs_hub.specs.DueReads.{Answered, AreDue, sharp_due, sharp_sum}
+use Rattle.cs_hub.specs.DueReads.{Answered, AreDue, sharp_sum}
 
-none_more : (m n : ℕ) → m ≡ 0 → n ≡ m + n
+pub none_more : (m n : ℕ) → m ≡ 0 → n ≡ m + n
 none_more m n e = omega (arith, e)
 
-pub due_both : (told : Option (List ℕ)) (xs ys : List Answered) (old mid new : EngineView) (m n : ℕ) → AreDue told xs old m mid → AreDue told ys mid n new
+abbrev pub due_both : (told : Option (List ℕ)) (xs ys : List Answered) (old mid new : EngineView) (m n : ℕ) → AreDue told xs old m mid → AreDue told ys mid n new
     → AreDue told (xs ++ ys) old (m + n) new
 due_both told [] ys old mid new m n h k =
     subst (λ e. AreDue told ys e (m + n) new) h.1 (subst (λ i. AreDue told ys mid i new) (none_more m n h.0) k)
@@ -50,7 +51,10 @@ module _ (told : Option (List ℕ)) (b : List ℕ) (new : EngineView) where
       → sharp_sum told b (xs ++ ys) old (m + n) new (due_both told xs ys old mid new m n h k) ≡ sharp_sum told b xs old m mid h + sharp_sum told b ys mid n new k
   sum_both [] ys old mid m n h k =
       let e = none_more m n h.0 in
-      sum_by_old ys (m + n) h.1 (subst (λ i. AreDue told ys mid i new) e k) ∙ sum_by_count ys mid e k
+      let moved : sharp_sum told b ys old (m + n) new (due_both told [] ys old mid new m n h k) ≡ sharp_sum told b ys mid n new k =
+      sum_by_old ys (m + n) h.1 (subst (λ i. AreDue told ys mid i new) e k) ∙ sum_by_count ys mid e k in
+      let whole : sharp_sum told b ys mid n new k ≡ 0 + sharp_sum told b ys mid n new k = omega arith in
+      moved ∙ whole
   sum_both (x ∷ xs) ys old mid m n h k =
       let rest = sum_both xs ys h.2 mid h.1 n h.5 k in
       omega (arith, rest)
