@@ -8,17 +8,21 @@
 --   rank shift n         how many words of the index have a number below n
 --   renumbered shift p   a post of the index with the number that its word has now
 --   now_posts shift present posts    posts of the index as they are now, without those of documents that are gone
+--   titles_now present titles        titles at the numbers that are those of documents
 --   stock_now s b        what a state has over the bytes of its index
 --   source_now s          a state as a source
 --   opened_state i       an index before the first change
 --   with_title s t       one document more, without rows
+--   without s d          the document of a number gone
 --   IsState s            what always holds of a state
 --   IsFetched i told k shift present lo hi listed posts    what a fetch of a block gives: its posts that are sought, as they are now
 --   AreScoredNow shift present docs words scores ..    documents, words and scores of posts as they are now, of those of posts
 --   IsScoredNow i told k shift present f    the same of the posts of a block
---   IsTitle i told added d t     the title of a document of the index or of an added one
-use Rattle.std.specs.Prelude.{◌≡◌, ℕ, ◌+◌, ◌-◌, ◌≤◌, ◌<◌, Bool, true, false, nat_lt, List, [], ◌∷◌, ◌++◌, length, filter, map, replicate, take, Option, slice_index_or, if◌then◌else◌}
+--   IsTitle i told present added d t     the title of a document of the index or of an added one, and of a number that is none's the empty text
+use Rattle.std.specs.Prelude.{◌≡◌, ℕ, ◌+◌, ◌-◌, ◌≤◌, ◌<◌, ◌==◌, ◌&&◌, Bool, true, false, not, nat_le, nat_lt, List, [], ◌∷◌, ◌++◌, length, filter, map, replicate, take}
+use Rattle.std.specs.Prelude.{Option, slice_index_or, slice_set, if◌then◌else◌}
 use Rattle.std.specs.List.{All, range_with_len}
+use Rattle.std.specs.FinMap as map
 use Rattle.std.specs.List.Sorted.{IsStrictlySortedBy}
 use Rattle.std.specs.Ordering.{nat_cmp}
 use Rattle.std.specs.Cmp.Lexicographic.{slice_cmp}
@@ -32,6 +36,7 @@ use Rattle.cs_file.specs.Indexes.{IndexView, IsIndex, block_posts}
 use Rattle.cs_file.specs.declared.fetched.Fetched.{Fetched}
 use Rattle.cs_tables.specs.WordCounts.{is_chosen}
 use Rattle.cs_merge.specs.Vocabularies.{AreOfWordSize, IsShift}
+use Rattle.cs_model.specs.Corpus.{by_number}
 use Rattle.cs_model_index.specs.Sections.{image_of}
 use Rattle.cs_engine.specs.IndexReading.{WhereStood, stock_of}
 use Rattle.cs_engine.specs.Sources.{IsIn, SourceView, is_there}
@@ -60,10 +65,14 @@ renumbered shift p = record { doc = p.doc; word = slice_index_or shift p.word 0;
 abbrev pub now_posts : List ℕ → List Bool → List Post → List Post
 now_posts shift present posts = map (renumbered shift) (filter (is_there present) posts)
 
--- the posts of added documents come behind those of the index
+-- each in its place in the list; a number that is gone has none
+abbrev pub titles_now : List Bool → List (List ℕ) → map.FinMap nat_cmp (List ℕ)
+titles_now present titles = map.retain_keys (by_number titles) (λ d. slice_index_or present d false)
+
+-- the titles and the posts of added documents come behind those of the index
 abbrev pub stock_now : StateView → List ℕ → Stock
 stock_now s b = record {
-  titles = (stock_of b).titles ++ s.added;
+  titles = titles_now s.present ((image_of b).titles ++ s.added);
   words = s.words;
   posts = now_posts s.shift s.present (stock_of b).posts ++ s.held;
 }
@@ -89,7 +98,16 @@ opened_state i = record { index = i; words = i.words; shift = range_with_len 0 (
 abbrev pub with_title : StateView → List ℕ → StateView
 with_title s t = record s { present = s.present ++ true ∷ []; added = s.added ++ t ∷ [] }
 
--- whatever store its index was opened over; an added document's number is behind those of the index
+-- its rows in memory go, and those of blocks are left out from then on; its number comes to no other document
+abbrev pub without : StateView → ℕ → StateView
+without s d = record s {
+  present = slice_set s.present d false;
+  whole = s.whole && nat_le s.index.docs d;
+  held = filter (λ p. not (p.doc == d)) s.held;
+}
+
+-- whatever store its index was opened over; an added document's number is behind those of the index, and each row in memory is of a document
+-- that is there
 pub record IsState (s : StateView) : Type 0 where
   pub index : IsIndex s.index
   pub few_docs : length s.present ≤ MAX_DOCS
@@ -133,8 +151,9 @@ pub record IsScoredNow (i : IndexView) (told : Option (List ℕ)) (k : ℕ) (shi
   pub stood : WhereStood told i (λ b. AreScoredOf (block_posts b k) docs words scores)
   pub now : AreScoredNow shift present docs words scores f.docs.items f.words.items f.scores.items
 
--- that of an added document is kept
-pub record IsTitle (i : IndexView) (told : Option (List ℕ)) (added : List (List ℕ)) (d : ℕ) (t : List ℕ) : Type 0 where
+-- that of an added document is kept; none is read of a document that is gone
+pub record IsTitle (i : IndexView) (told : Option (List ℕ)) (present : List Bool) (added : List (List ℕ)) (d : ℕ) (t : List ℕ) : Type 0 where
   pub text : is_utf8 t ≡ true
-  pub old : d < i.docs → WhereStood told i (λ b. t ≡ title_at (stock_of b).titles d)
-  pub new : i.docs ≤ d → t ≡ slice_index_or added (d - i.docs) []
+  pub gone : slice_index_or present d false ≡ false → t ≡ []
+  pub old : slice_index_or present d false ≡ true → d < i.docs → WhereStood told i (λ b. t ≡ title_at (stock_of b).titles d)
+  pub new : slice_index_or present d false ≡ true → i.docs ≤ d → t ≡ slice_index_or added (d - i.docs) []

@@ -30,6 +30,10 @@ impl Source for State {
         Ok(all)
     }
 
+    fn has_doc(&self, doc: u32) -> bool {
+        self.present[doc as usize]
+    }
+
     fn held(&self) -> &[Post] {
         &self.held
     }
@@ -97,7 +101,7 @@ impl Source for State {
     }
 
     fn title<S: Store>(&self, alloc: Global, store: &mut S, doc: u32) -> Result<Text, FetchFault> {
-        title_now(alloc, &self.index, &self.added, store, doc)
+        title_now(alloc, &self.index, &self.present, &self.added, store, doc)
     }
 }
 

@@ -1,9 +1,9 @@
 //! An opened index under changes.
-ghost use Rattle.std.specs.Prelude.{◌≡◌, ◌≤◌, ◌<◌, true, length, IfOk, OnErr, OnOk};
+ghost use Rattle.std.specs.Prelude.{◌≡◌, ◌≤◌, ◌<◌, ◌==◌, filter, not, true, length, IfOk, OnErr, OnOk};
 ghost use Rattle.std.specs.List.{range_with_len, sum_by};
 ghost use Rattle.std.specs.Str.{is_utf8};
 ghost use Rattle.cs_base.specs.declared.content.limits.TheConstants.{MAX_DOCS, MAX_ROWS, MAX_WORDS};
-ghost use Rattle.cs_live.specs.{Lives.{AreWaiting, IsSettled}, Settling.{words_met}, States.{IsState, opened_state, with_title}};
+ghost use Rattle.cs_live.specs.{Lives.{AreWaiting, IsSettled}, Settling.{words_met}, States.{IsState, opened_state, with_title, without}};
 
 use crate::settling::{Settled, brought_in};
 use cs_base::{BlockHead, Memory, Post, Row, Seq, Text};
@@ -78,6 +78,18 @@ impl State {
         pushed
     }
 
+    /// The document of a number gone, and its rows with it. No other document gets the number.
+    pub(crate) fn remove(&mut self, doc: u32)
+        requires { doc < length self.old.present }
+
+        ensures { self.new ≡ without self.old doc }
+    {
+        let added = docs_of(&self.index) <= doc;
+        self.present[doc as usize] = false;
+        self.whole = self.whole && added;
+        forget(&mut self.held, doc);
+    }
+
     /// The rows that waited, with their words. Where memory runs out, nothing changes.
     pub(crate) fn take(&mut self, alloc: Global, rows: &[Row]) -> Result<(), Memory>
         requires is { IsState self.old }
@@ -107,6 +119,19 @@ fn numbers_below(alloc: Global, n: u32) -> Result<Vec<u32>, Memory>
         numbers.push(i)?;
     }
     Ok(numbers)
+}
+
+fn docs_of(index: &Index) -> u32
+    ensures { result ≡ index.now.docs }
+{
+    index.docs
+}
+
+// Takes the rows of a document out.
+fn forget(held: &mut Vec<Post>, doc: u32)
+    ensures { held.new.items ≡ filter (λ p. not (p.doc == doc)) held.old.items }
+{
+    held.retain(|post| post.doc != doc);
 }
 
 /// How many rows an index has.
