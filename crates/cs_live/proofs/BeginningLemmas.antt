@@ -34,7 +34,8 @@ use Rattle.cs_model_index.specs.Sections.{file_corpus, image_of}
 use Rattle.cs_model_index.proofs.ImageLemmas.{titles_listed}
 use Rattle.cs_model_index.proofs.TextLimits.{word_length}
 use Rattle.cs_live.specs.Lives.{AreWaiting, IsBehind, IsGoodRow, LiveView, changing}
-use Rattle.cs_live.specs.States.{IsState, StateView, now_posts, opened_state, renumbered, source_now, stock_now}
+use Rattle.cs_live.specs.States.{IsState, StateView, now_posts, opened_state, renumbered, source_now, stock_now, titles_now}
+use Rattle.cs_live.proofs.TitleLemmas.{titled_all}
 
 -- ---- numbers from 0 on
 pub range_more : (a n : ℕ) → range_with_len a (n + 1) ≡ range_with_len a n ++ (a + n) ∷ []
@@ -127,11 +128,14 @@ pub opened_begins : (i : IndexView) → IsIndex i → (b : List ℕ) → StandsF
 unfolding IsBehind
 opened_begins i is b stands l state rows =
     let old = (stock_of b).posts in
-    let ts = (stock_of b).titles in
+    let ts = (image_of b).titles in
     let docs = docs_are b i stands is in
     let corpus = stock_corpus b i stands is in
-    let own_titles : (file_corpus b).titles ≡ by_number (stock_now l.state b).titles =
-    sym (ap (λ (k : Corpus). k.titles) corpus) ∙ ap by_number (sym (append-nil ts)) ∙ ap (λ (s : StateView). by_number (stock_now s b).titles) (sym state) in
+    let own_titles : (file_corpus b).titles ≡ (stock_now l.state b).titles =
+    sym (ap (λ (k : Corpus). k.titles) corpus)
+    ∙ sym (ap (titles_now (replicate i.docs true)) (append-nil ts)
+    ∙ titled_all (replicate i.docs true) ts (λ d lt. get_or-replicate i.docs d true false (omega (arith, lt, docs))))
+    ∙ ap (λ (s : StateView). (stock_now s b).titles) (sym state) in
     let own_rows : (file_corpus b).rows ≡ rows_at l.state.words (stock_now l.state b).posts ++ l.rows =
     sym (ap (λ (k : Corpus). k.rows) corpus) ∙ ap (λ ws. rows_at ws old) (sym (words_are b i stands is))
     ∙ ap (rows_at i.words) (sym (append-nil (now_posts (range_with_len 0 (length i.words)) (replicate i.docs true) old) ∙ posts_stay i is b stands))

@@ -2,8 +2,8 @@
 --
 --   fetched_ranged, fetched_sought, fetched_stood    the posts of a block that are sought
 --   scored_even, scored_docs, scored_words, scored_scores, scored_stood    its documents, words and scores
---   title_old, title_stood         a title
-use Rattle.std.proofs.Common.{◌≡◌, ℕ, ◌+◌, ◌-◌, ◌<◌, ◌≤◌, ◌&&◌, Bool, true, false, List, [], ◌∷◌, ◌++◌, length, get_or, take, map, Option, Some}
+--   title_none, title_old, title_stood     a title
+use Rattle.std.proofs.Common.{◌≡◌, ℕ, ◌+◌, ◌-◌, ◌<◌, ◌≤◌, ◌&&◌, Bool, true, false, true≢false, List, [], ◌∷◌, ◌++◌, length, get_or, take, map, Option, Some}
 use Rattle.std.proofs.Common.{cond, refl, sym, ap, ap₂, subst, ◌∙◌, arith, append-nil, get_or-take, inl, inr}
 use Rattle.std.specs.Prelude.{All, filter, IfOk, Result, Ok, Err}
 use Rattle.std.specs.List.{AllByRecursion}
@@ -27,6 +27,7 @@ use Rattle.cs_engine.proofs.StockLemmas.{docs_are, within_block}
 use Rattle.cs_live.specs.States.{AreScoredNow, IsFetched, IsScoredNow, IsState, IsTitle, StateView, now_posts, rank, renumbered, source_now, stock_now}
 use Rattle.cs_live.proofs.NumberLemmas.{known_word}
 use Rattle.cs_live.proofs.NowLemmas.{all_now, between_now, chosen_now, get_map, now_append}
+use Rattle.cs_live.proofs.TitleLemmas.{title_gone, title_there}
 
 module _ (s : StateView) (is : IsState s) where
   abbrev N : List Post → List Post
@@ -261,28 +262,42 @@ module _ (shift : List ℕ) (present : List Bool) (docs words scores : List ℕ)
       subst (λ ps. AreScoredOf (now_posts shift present ps) kd kw ks) (take_all i posts (omega (arith, le, long))) (first posts are)
 
 -- ---- titles
-pub title_old : {E : Type 0} (i : IndexView) → IsIndex i → (told : Option (List ℕ)) (added : List (List ℕ)) (d : ℕ) → d < i.docs → (r : Result (List ℕ) E) → IfOk r (λ t. is_utf8 t ≡ true)
-    → ((b : List ℕ) → told ≡ Some b → StandsFor b i → IfOk r (λ t. t ≡ title_in b d)) → IfOk r (IsTitle i told added d)
-title_old i is told added d lt (Ok t) text stood = record {
-  text = text;
-  old = λ here b tells stands. stood b tells stands ∙ opened_title i is b stands d lt;
-  new = λ le. absurd (omega (arith, lt, le));
+pub title_none : (i : IndexView) (told : Option (List ℕ)) (present : List Bool) (added : List (List ℕ)) (d : ℕ) (t : List ℕ) → get_or present d false ≡ false → t ≡ [] → IsTitle i told present added d t
+title_none i told present added d t away none = record {
+  text = ap is_utf8 none;
+  gone = λ e. none;
+  old = λ here lt. absurd (true≢false (sym here ∙ away));
+  new = λ here le. absurd (true≢false (sym here ∙ away));
 }
-title_old i is told added d lt (Err e) text stood = tt
 
-pub title_stood : (s : StateView) → IsState s → {i : IndexView} {told : Option (List ℕ)} {added : List (List ℕ)} (d : ℕ) (t : List ℕ) → i ≡ s.index → added ≡ s.added
-    → d < length s.present → (b : List ℕ) → told ≡ Some b → StandsFor b s.index → IsTitle i told added d t → t ≡ title_at (stock_now s b).titles d
-title_stood s is {i} {told} {added} d t index_is added_is lt b tells stands h =
-    let titles = (stock_of b).titles in
+pub title_old : {E : Type 0} (i : IndexView) → IsIndex i → (told : Option (List ℕ)) (present : List Bool) (added : List (List ℕ)) (d : ℕ) → get_or present d false ≡ true → d < i.docs
+    → (r : Result (List ℕ) E) → IfOk r (λ t. is_utf8 t ≡ true)
+    → ((b : List ℕ) → told ≡ Some b → StandsFor b i → IfOk r (λ t. t ≡ title_in b d)) → IfOk r (IsTitle i told present added d)
+title_old i is told present added d here lt (Ok t) text stood = record {
+  text = text;
+  gone = λ away. absurd (true≢false (sym here ∙ away));
+  old = λ h l b tells stands. stood b tells stands ∙ opened_title i is b stands d lt;
+  new = λ h le. absurd (omega (arith, lt, le));
+}
+title_old i is told present added d here lt (Err e) text stood = tt
+
+pub title_stood : (s : StateView) → IsState s → {i : IndexView} {told : Option (List ℕ)} {present : List Bool} {added : List (List ℕ)} (d : ℕ) (t : List ℕ) → i ≡ s.index → present ≡ s.present
+    → added ≡ s.added → d < length s.present → (b : List ℕ) → told ≡ Some b → StandsFor b s.index → IsTitle i told present added d t → t ≡ title_at (stock_now s b).titles d
+title_stood s is {i} {told} {present} {added} d t index_is present_is added_is lt b tells stands h =
+    let titles = (image_of b).titles in
+    let all = titles ++ s.added in
     let docs : s.index.docs ≡ length titles = docs_are b s.index stands is.index in
-    let count = is.count in
-    let both = length-append titles s.added in
-    let own : IsTitle s.index told s.added d t = subst (λ x. IsTitle s.index told x d t) added_is (subst (λ x. IsTitle x told added d t) index_is h) in
-    let whole : title_at (titles ++ s.added) d ≡ get_or (titles ++ s.added) d [] = titled (titles ++ s.added) d [] (omega (arith, both, docs, count, lt)) in
-    elim (cases_lt d s.index.docs) [
-      | inl old ↦
-          let here : d < length titles = omega (arith, old, docs) in
-          own.old old b tells stands ∙ titled titles d [] here ∙ sym (get_or_append_left titles s.added [] d here) ∙ sym whole
-      | inr new ↦
-          own.new new ∙ sym (get_or-append_right titles s.added s.index.docs d [] (sym docs) new) ∙ sym whole
-    ]
+    let own : IsTitle s.index told s.present s.added d t = subst (λ x. IsTitle s.index told s.present x d t) added_is (subst (λ x. IsTitle s.index told x added d t) present_is
+    (subst (λ x. IsTitle x told present added d t) index_is h)) in
+    elim (get_or s.present d false) as (λ here. get_or s.present d false ≡ here → t ≡ title_at (stock_now s b).titles d) [
+      | false ↦ λ away. own.gone away ∙ sym (title_gone s.present all d away)
+      | true ↦ λ here.
+          elim (cases_lt d s.index.docs) [
+            | inl old ↦
+                let inside : d < length titles = omega (arith, old, docs) in
+                own.old here old b tells stands ∙ titled titles d [] inside ∙ sym (get_or_append_left titles s.added [] d inside)
+                ∙ sym (title_there s.present all d here)
+            | inr new ↦
+                own.new here new ∙ sym (get_or-append_right titles s.added s.index.docs d [] (sym docs) new) ∙ sym (title_there s.present all d here)
+          ]
+    ] refl

@@ -1,8 +1,10 @@
 pub mod NumberLemmas
 pub mod NowLemmas
+pub mod TitleLemmas
 pub mod StateLemmas
 pub mod FetchedLemmas
 pub mod BeginningLemmas
+pub mod RemovedLemmas
 pub mod SettledLemmas
 pub mod AddingLemmas
 pub mod LiveLemmas

@@ -5,9 +5,10 @@
 --   between_now                         those of some words
 --   now_rises                           they are in order
 --   sorted_behind                       posts of later documents behind those of earlier ones
+--   block_now                           the documents of a block's posts
 --   take_map, drop_map, get_map, flat_through, flat_same, flat_parts, taken_parts, dropped_parts    lists of blocks
 use Rattle.std.proofs.Common.{◌≡◌, ℕ, zero, suc, ◌<◌, ◌≤◌, Bool, true, false, cond, List, [], ◌∷◌, ◌++◌, length, get_or, take, drop, map}
-use Rattle.std.proofs.Common.{refl, sym, ap, ap₂, ◌∙◌, arith}
+use Rattle.std.proofs.Common.{refl, sym, ap, ap₂, subst, ◌∙◌, arith}
 use Rattle.std.specs.Prelude.{All, filter, flat_map}
 use Rattle.std.specs.List.{AllByRecursion}
 use Rattle.std.specs.List.Sorted.{IsStrictlySortedBy}
@@ -157,6 +158,13 @@ pub get_map : (f : List Post → List Post) → f [] ≡ [] → (bs : List (List
 get_map f none [] k = sym none
 get_map f none (b ∷ bs) zero = refl
 get_map f none (b ∷ bs) (suc k) = get_map f none bs k
+
+-- the posts that a block has now are of documents of which it had some before
+pub block_now : (shift : List ℕ) (present : List Bool) (P : ℕ → Type 0) (bs : List (List Post)) (k : ℕ) → All (λ p. P p.doc) (get_or bs k [])
+    → All (λ p. P p.doc) (get_or (map (now_posts shift present) bs) k [])
+block_now shift present P bs k h =
+    subst (All (λ p. P p.doc)) (sym (get_map (now_posts shift present) refl bs k))
+    (all_now shift present (λ p. P p.doc) (λ p. P p.doc) (get_or bs k []) (λ p e q. q) h)
 
 -- what holds of all posts of blocks holds of those of some
 pub flat_parts : (P : Post → Type 0) (bs : List (List Post)) → AllByRecursion P (flat_map (λ b. b) bs) → AllByRecursion (λ b. All P b) bs

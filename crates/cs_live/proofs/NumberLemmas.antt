@@ -164,6 +164,17 @@ module _ (i : IndexView) (words : List (List ℕ)) (shift : List ℕ) (is : IsSh
             ap (begins p) (sym (is.same n lt)) ∙ range.holds (get_or shift n 0) (is.below n 0 (known_word n lt)) ∙ new_between lo hi n lt;
       }
 
+  pub old_span : (test : List ℕ → Bool) (lo hi : ℕ) → IsSpanOf words test lo hi → IsSpanOf i.words test (rank shift lo) (rank shift hi)
+  old_span test lo hi span =
+      let long = is.long in
+      let le = rank_within shift hi in
+      record {
+        ordered = rank_up shift lo hi span.ordered;
+        within = omega (arith, le, long);
+        holds = λ n lt.
+            ap test (sym (is.same n lt)) ∙ span.holds (get_or shift n 0) (is.below n 0 (known_word n lt)) ∙ new_between lo hi n lt;
+      }
+
   pub old_met_prefix : IsIndex i → (p : List ℕ) (lo hi : ℕ) → IsRange words p lo hi
       → length (filter (is_met (rank shift lo) (rank shift hi)) i.heads) ≤ met_prefix (division i) p
   old_met_prefix index p lo hi range = prefix_met i index p (rank shift lo) (rank shift hi) (old_range p lo hi range)

@@ -10,6 +10,7 @@
 use Rattle.std.proofs.Common.{◌≡◌, ℕ, ◌+◌, ◌-◌, ◌<◌, ◌≤◌, ◌==◌, ◌&&◌, ◌||◌, Bool, true, false, List, [], ◌∷◌, ◌++◌, length, take, drop, map, replicate}
 use Rattle.std.proofs.Common.{refl, sym, ap, subst, ◌∙◌, arith, append-nil}
 use Rattle.std.specs.Prelude.{All, filter, flat_map, nat_le, nat_lt}
+use Rattle.std.specs.FinMap.{contains_key}
 use Rattle.std.specs.List.{AllByRecursion, list_any}
 use Rattle.std.proofs.Math.Bool.{and_comm}
 use Rattle.std.proofs.lemmas.Bool.Decides.{nat_tests}
@@ -40,10 +41,11 @@ use Rattle.cs_engine.proofs.CountingLemmas.{countable, stock_within}
 use Rattle.cs_engine.proofs.FoundLemmas.{stays}
 use Rattle.cs_engine.proofs.OpenedLemmas.{opened_told}
 use Rattle.cs_engine.proofs.StockLemmas.{docs_are, score_fits, stocked}
-use Rattle.cs_live.specs.States.{IsState, StateView, now_posts, rank, renumbered, source_now, stock_now}
+use Rattle.cs_live.specs.States.{IsState, StateView, now_posts, rank, renumbered, source_now, stock_now, titles_now}
 use Rattle.cs_live.proofs.NumberLemmas.{known_word, old_met_prefix, old_met_word, rank_step}
 use Rattle.cs_live.proofs.NowLemmas.{all_now, between_now, chosen_now, dropped_parts, drop_map, flat_parts, flat_same, flat_through, now_flat, now_pieces, now_rises, sorted_behind}
 use Rattle.cs_live.proofs.NowLemmas.{take_map, taken_parts}
+use Rattle.cs_live.proofs.TitleLemmas.{titled_docs, titled_there}
 
 -- ---- lists of blocks
 flat_filter : (t : Post → Bool) (bs : List (List Post)) → flat_map (filter t) bs ≡ filter t (flat_map (λ block. block) bs)
@@ -98,18 +100,25 @@ module _ (s : StateView) (is : IsState s) where
     stock_known : All (λ p. p.word < length s.shift) old
     stock_known = All-weaker OldPost (λ p. p.word < length s.shift) (λ p h. word_in p.word h.word) old old_within
 
-    titles_long : length (stock_now s b).titles ≡ length s.present
+    abbrev titles : List (List ℕ)
+    titles = (image_of b).titles ++ s.added
+
+    -- there is one for each number
+    pub titles_long : length s.present ≡ length ((image_of b).titles ++ s.added)
     titles_long =
-        let both = length-append (stock_of b).titles s.added in
+        let both = length-append (image_of b).titles s.added in
         let docs = docs_are b s.index stands is.index in
         let count = is.count in
         omega (arith, both, docs, count)
 
+    title_there : (p : Post) → is_there s.present p ≡ true → contains_key (titles_now s.present titles) p.doc ≡ true
+    title_there p here = titled_there s.present titles p.doc titles_long ∙ here
+
     now_known : All (IsKnown (stock_now s b)) (stock_now s b).posts
     now_known = All-append (IsKnown (stock_now s b)) (N old) s.held
         (all_now s.shift s.present OldPost (IsKnown (stock_now s b)) old
-        (λ p e h. (let doc = h.doc in let count = is.count in let long = titles_long in record {
-          doc = omega (arith, doc, count, long);
+        (λ p e h. (record {
+          doc = title_there p e;
           word = is.shift.below p.word 0 (word_in p.word h.word);
           score_from = h.score_from;
           score_to = h.score_to;
@@ -117,20 +126,13 @@ module _ (s : StateView) (is : IsState s) where
         (All-weaker (IsIn (source_now s)) (IsKnown (stock_now s b)) (λ p h.
         (let r = h.ranged in
         let score = score_fits s.index.weights is.index.weights r.facet p r.scored in
-        let doc = r.doc in
-        let long = titles_long in
-        record { doc = omega (arith, doc, long); word = r.word; score_from = score.0; score_to = score.1 })) s.held is.held)
+        record { doc = title_there p h.there; word = r.word; score_from = score.0; score_to = score.1 })) s.held is.held)
 
     now_sorted : AreSorted (stock_now s b).posts
     now_sorted = sorted_behind s.index.docs (N old) s.held
         (now_rises s.shift s.present is.shift.rises old stock_known (stocked b s.index stands is.index).sorted) is.held_sorted
         (recursion_from_All (λ p. p.doc < s.index.docs) (N old) (all_now s.shift s.present OldPost (λ p. p.doc < s.index.docs) old (λ p e h. h.doc) old_within))
         (recursion_from_All (λ p. s.index.docs ≤ p.doc) s.held is.held_later)
-
-    now_there : All (λ p. is_there s.present p ≡ true) (stock_now s b).posts
-    now_there = All-append (λ p. is_there s.present p ≡ true) (N old) s.held
-        (all_now s.shift s.present OldPost (λ p. is_there s.present p ≡ true) old (λ p e h. e) old_within)
-        (All-weaker (IsIn (source_now s)) (λ p. is_there s.present p ≡ true) (λ p h. h.there) s.held is.held)
 
     -- ---- members, and how many there are
     abbrev older : (Post → Bool) → Post → Bool
@@ -281,7 +283,6 @@ module _ (s : StateView) (is : IsState s) where
       words = is.ascending;
       few_words = is.few_words;
       texts = is.texts;
-      few_docs = (let long = titles_long in let few = is.few_docs in omega (arith, long, few));
       sorted = now_sorted;
       known = now_known;
     }
@@ -289,9 +290,8 @@ module _ (s : StateView) (is : IsState s) where
     pub state_told : IsTold (source_now s) b
     state_told = record {
       stocked = now_stocked;
-      docs = sym titles_long;
+      docs = sym (titled_docs s.present titles titles_long);
       words = refl;
-      there = now_there;
       count = length-map (image_of b).blocks N ∙ stood_count b s.index stands;
       alike = now_any;
       long = now_long;
