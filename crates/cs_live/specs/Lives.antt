@@ -2,13 +2,16 @@
 --
 -- Source: this engine's own, over `Changes` of cs_model_changes and `LiveStates` of cs_model_live.
 --
---   LiveView                a state, the rows of added documents that it hasn't yet, how many rows the index and all added documents have, what
---                           is kept of answers, and the ranges of words that are held
+--   LiveView                a state, the rows of added documents that it hasn't yet, how many rows the index and all added documents have, how
+--                           many changes there were, what is kept of answers, and the ranges of words that are held
 --   next_number l           the number that the next document gets
 --   changes_in l            how many changes there were
+--   has_document l d        a number is that of a document
 --   rows_now l b            of the bytes of the index, all rows
 --   changing l b            the corpus now, with the next number
---   IsBehind b cs l         the corpus now is that of the bytes after the changes cs
+--   met_by l b docs         of the bytes of the index, the rows of the index and of these documents, which were added
+--   IsBehind b cs l         the corpus now, and all that is counted, is that of the bytes after the changes cs
+--   IsStateOf b l s         the state s of a live corpus is that of the index under changes
 --   IsAccepted w doc        a document that is read of a collection with these weights, and the only one there
 --   own_rows l doc          its rows under the next number
 --   full_now l doc          what there is no room for where the document is added; None where it may be
@@ -23,7 +26,10 @@
 --   IsFresh rows a held     nothing is kept and held while rows wait
 --   IsKept l, IsRoom a n    what always holds of an index under changes
 --   IsAdded l doc new       what an addition leaves
-use Rattle.std.specs.Prelude.{◌≡◌, ◌⊎◌, ℕ, ◌+◌, ◌≤◌, ◌<◌, true, nat_le, nat_lt, List, [], ◌∷◌, ◌++◌, length, fold, map, slice_index_or, All, MatchOption, Option, None, Some, Result}
+--   IsRemoved l d new       what a deletion leaves
+--   IsCounted l             each change added a number or took one away
+use Rattle.std.specs.Prelude.{◌≡◌, ◌⊎◌, ℕ, ◌+◌, ◌≤◌, ◌<◌, Bool, not, true, false, nat_le, nat_lt, List, [], ◌∷◌, ◌++◌, length, count_by, fold, map, slice_index_or, All, MatchOption}
+use Rattle.std.specs.Prelude.{Option, None, Some, Result}
 use Rattle.std.specs.List.Sorted.{IsStrictlySortedBy}
 use Rattle.cs_base.specs.content.Orders.{by_spot}
 use Rattle.cs_base.specs.declared.content.doc.Doc.{Doc}
@@ -42,16 +48,17 @@ use Rattle.cs_engine.specs.declared.note.Note.{Note}
 use Rattle.cs_file.specs.declared.fault.FetchFault.{FetchFault}
 use Rattle.cs_file.specs.Indexes.{StandsFor}
 use Rattle.cs_model.specs.Collection.{docs_refusal, documents, weights}
-use Rattle.cs_model.specs.Corpus.{Corpus, by_number, rows_of}
+use Rattle.cs_model.specs.Corpus.{Corpus, distinct_words, rows_of}
 use Rattle.cs_model.specs.First.{first_reason, unless}
-use Rattle.cs_model_changes.specs.Changes.{Change, Changing, added, applied, started}
+use Rattle.cs_model_changes.specs.Changes.{Change, Changing, added, applied, deleted, started}
 use Rattle.cs_model_changes.specs.Joined.{later_row}
 use Rattle.cs_model_index.specs.BlockRules.{is_scored}
 use Rattle.cs_model_index.specs.FileRules.{is_word}
 use Rattle.cs_model_index.specs.Numbered.{post_of, rows_at}
 use Rattle.cs_model_index.specs.Partitions.{is_facet}
 use Rattle.cs_model_index.specs.Sections.{file_corpus}
-use Rattle.cs_model_live.specs.LiveStates.{Full, full_docs, full_rows, full_words}
+use Rattle.cs_model_live.specs.Courses.{additions_in}
+use Rattle.cs_model_live.specs.LiveStates.{Full, LiveState, full_docs, full_refusal, full_rows, full_words, met_rows, next_doc}
 use Rattle.cs_live.specs.Settling.{words_met}
 use Rattle.cs_live.specs.States.{IsState, StateView, source_now, stock_now}
 use Rattle.cs_model_kept.specs.declared.limits.TheConstants.{MAX_ENTRIES}
@@ -65,6 +72,7 @@ pub record LiveView : Type 0 where
   pub state : StateView
   pub rows : List Row
   pub met : ℕ
+  pub changes : ℕ
   pub answers : AnswerList
   pub held : List HeldRange
 
@@ -72,9 +80,13 @@ pub record LiveView : Type 0 where
 abbrev pub next_number : LiveView → ℕ
 next_number l = length l.state.present
 
--- each of them adds a document
+-- additions and deletions
 abbrev pub changes_in : LiveView → ℕ
-changes_in l = length l.state.added
+changes_in l = l.changes
+
+-- not so behind the last number
+abbrev pub has_document : LiveView → ℕ → Bool
+has_document l d = slice_index_or l.state.present d false
 
 -- ---- the corpus
 -- by document, position and word; those that wait come last
@@ -83,11 +95,19 @@ rows_now l b = rows_at l.state.words (stock_now l.state b).posts ++ l.rows
 
 -- it counts only where the bytes stand for the index
 abbrev pub changing : LiveView → List ℕ → Changing
-changing l b = record { corpus = record { titles = by_number (stock_now l.state b).titles; rows = rows_now l b }; next = next_number l }
+changing l b = record { corpus = record { titles = (stock_now l.state b).titles; rows = rows_now l b }; next = next_number l }
+
+-- also of documents that are gone since
+abbrev pub met_by : LiveView → List ℕ → List Doc → List Row
+met_by l b docs = met_rows l.state.index.weights (file_corpus b) docs
 
 -- so `(changing l b).corpus` is `now` of the corpus of the bytes; after no changes it is that corpus
-unfoldable pub IsBehind : List ℕ → List Change → LiveView → Type 0
-IsBehind b cs l = fold (applied l.state.index.weights) (started (file_corpus b)) cs ≡ changing l b
+pub record IsBehind (b : List ℕ) (cs : List Change) (l : LiveView) : Type 0 where
+  pub corpus : fold (applied l.state.index.weights) (started (file_corpus b)) cs ≡ changing l b
+  pub changes : l.changes ≡ length cs
+  pub added : length l.state.added ≡ length (additions_in cs)
+  pub rows : l.met ≡ length (met_by l b (additions_in cs))
+  pub words : words_met l.state.words l.rows ≡ distinct_words (met_by l b (additions_in cs))
 
 -- ---- additions
 -- no rule refuses it
@@ -108,6 +128,13 @@ full_now l doc = first_reason (
     ∷ unless (nat_le (l.met + length (own_rows l doc)) MAX_ROWS) full_rows
     ∷ unless (nat_le (length (words_met l.state.words (l.rows ++ own_rows l doc))) MAX_WORDS) full_words
     ∷ [])
+
+-- a document has room in both or in neither, and is refused for the same cause
+pub record IsStateOf (b : List ℕ) (l : LiveView) (s : LiveState) : Type 0 where
+  pub corpus : s.corpus ≡ (changing l b).corpus
+  pub changes : s.changes ≡ l.changes
+  pub next : next_doc (file_corpus b) s ≡ next_number l
+  pub full : (doc : Doc) → full_refusal l.state.index.weights (file_corpus b) s doc ≡ full_now l doc
 
 -- of want of memory None
 abbrev pub full_of : AddFault → Option Full
@@ -141,6 +168,19 @@ pub record IsAdded (l : LiveView) (doc : Doc) (new : LiveView) : Type 0 where
   pub changes : changes_in new ≡ changes_in l + 1
   pub rows : new.met ≡ l.met + length (own_rows l doc)
   pub words : words_met new.state.words new.rows ≡ words_met l.state.words (l.rows ++ own_rows l doc)
+  pub added : length new.state.added ≡ length l.state.added + 1
+  pub answers : new.answers ≡ answer_list [] l.answers.capacity
+  pub held : new.held ≡ []
+
+-- ---- deletions
+-- its title and its rows go, and all that is counted stays; nothing that was kept or held of the corpus before is left
+pub record IsRemoved (l : LiveView) (d : ℕ) (new : LiveView) : Type 0 where
+  pub index : new.state.index ≡ l.state.index
+  pub corpus : (b : List ℕ) → StandsFor b l.state.index → changing new b ≡ applied l.state.index.weights (changing l b) (deleted d)
+  pub changes : changes_in new ≡ changes_in l + 1
+  pub added : new.state.added ≡ l.state.added
+  pub rows : new.met ≡ l.met
+  pub words : words_met new.state.words new.rows ≡ words_met l.state.words l.rows
   pub answers : new.answers ≡ answer_list [] l.answers.capacity
   pub held : new.held ≡ []
 
@@ -186,7 +226,6 @@ pub record AreWaiting (s : StateView) (rows : List Row) : Type 0 where
 -- and there are few of all
 pub record IsLive (s : StateView) (rows : List Row) (met : ℕ) : Type 0 where
   pub state : IsState s
-  pub whole : s.whole ≡ true
   pub waiting : AreWaiting s rows
   pub few : length rows ≤ met
   pub few_rows : met ≤ MAX_ROWS
@@ -196,9 +235,14 @@ pub record IsLive (s : StateView) (rows : List Row) (met : ℕ) : Type 0 where
 abbrev pub IsFresh : List Row → AnswerList → List HeldRange → Type 0
 IsFresh rows answers held = (rows ≡ []) ⊎ ((answers.entries ≡ []) × (held ≡ []))
 
+-- no number is added or goes twice
+abbrev pub IsCounted : LiveView → Type 0
+IsCounted l = l.changes ≡ length l.state.added + count_by not l.state.present
+
 -- what is kept and held is in the range of the state
 pub record IsKept (l : LiveView) : Type 0 where
   pub live : IsLive l.state l.rows l.met
+  pub counted : IsCounted l
   pub fresh : IsFresh l.rows l.answers l.held
   pub answers : KeepsFitting (seen (source_now l.state)) l.answers.entries
   pub held : All (FitsRange (seen (source_now l.state))) l.held

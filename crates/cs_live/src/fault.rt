@@ -1,6 +1,6 @@
 //! Why a change isn't made.
 ghost use Rattle.std.specs.Prelude.{◌≡◌};
-ghost use Rattle.cs_live.specs.declared.fault.AddFault.{AddFault};
+ghost use Rattle.cs_live.specs.declared.fault.{AddFault.{AddFault}, RemoveFault.{RemoveFault}};
 
 use cs_base::Memory;
 use thiserror::Error;
@@ -27,5 +27,24 @@ impl From<Memory> for AddFault {
 
     fn from(_: Memory) -> AddFault {
         AddFault::Memory
+    }
+}
+
+/// What `Live::remove` answers where it deletes no document.
+#[derive(Clone, Copy, Debug, PartialEq, Eq, Drop, Error)]
+pub enum RemoveFault {
+    /// The number is no document's now.
+    #[error("no document")]
+    Absent,
+    /// Memory ran out.
+    #[error("out of memory")]
+    Memory,
+}
+
+impl From<Memory> for RemoveFault {
+    ghost from_gives = { λ _ e. e ≡ RemoveFault.Memory };
+
+    fn from(_: Memory) -> RemoveFault {
+        RemoveFault::Memory
     }
 }

@@ -10,12 +10,13 @@ mod asking;
 mod fault;
 mod live;
 mod numbers;
+mod removing;
 mod rows;
 mod settling;
 mod source;
 mod state;
 mod titles;
 
-pub use fault::AddFault;
+pub use fault::{AddFault, RemoveFault};
 pub use live::Live;
 pub use state::State;

@@ -1,5 +1,6 @@
 //! An index under changes, which answers requests.
-ghost use Rattle.std.specs.Prelude.{◌≡◌, ℕ, ◌+◌, ◌≤◌, ◌++◌, ◌∷◌, [], Err, None, List, length, false, IfErr, IfOk, OnErr, OnOk};
+ghost use Rattle.std.specs.Prelude.{◌≡◌, ◌↔◌, ℕ, ◌+◌, ◌≤◌, ◌++◌, ◌∷◌, [], Err, None, List, length, false, true, IfErr, IfOk, OnErr, OnOk};
+ghost use Rattle.std.specs.FinMap as map;
 ghost use Rattle.std.specs.Option.{ForSome};
 ghost use Rattle.cs_base.specs.outside.Causes.{ReadsWithin};
 ghost use Rattle.cs_cache.specs.AnswerList.{answer_list};
@@ -9,15 +10,19 @@ ghost use Rattle.cs_file.specs.CallAnswers.{is_changed, is_read};
 ghost use Rattle.cs_file.specs.Indexes.{HasAllBlocks, StandsFor, CausedReads};
 ghost use Rattle.cs_file.specs.declared.fault.FetchFault.TheVariants as fetches;
 ghost use Rattle.cs_model.specs.{Parameters.{HoldsLimits}, Requests.{reply_of}};
-ghost use Rattle.cs_model_changes.specs.Changes.{Change, added, now};
+ghost use Rattle.cs_model_changes.specs.Changes.{Change, added, deleted, now};
 ghost use Rattle.cs_model_index.specs.Sections.{file_corpus};
 ghost use Rattle.cs_model_kept.specs.{Due.{due}, declared.limits.TheConstants.{MAX_ENTRIES}};
+ghost use Rattle.cs_model_live.specs.{Courses.{IsChanged}, LiveStates.{LiveState}};
 ghost use Rattle.cs_query.specs.RequestView.{asked};
-ghost use Rattle.cs_live.specs.{Lives.{AreGoodNow, IsAccepted, IsAdded, IsAfterNow, IsBehind, NamesFull, changes_in, full_now, next_number}, States.{source_now}};
+ghost use Rattle.cs_live.specs.Lives.{AreGoodNow, IsAccepted, IsAdded, IsAfterNow, IsBehind, IsRemoved, IsStateOf, NamesFull, changes_in, changing};
+ghost use Rattle.cs_live.specs.{Lives.{full_now, has_document, next_number}, States.{source_now}};
+ghost use Rattle.cs_live.specs.declared.fault.RemoveFault.TheVariants as removals;
 
 use crate::adding::{Addition, addition_of, put_document, words_fit};
 use crate::asking::ask_state;
-use crate::fault::AddFault;
+use crate::fault::{AddFault, RemoveFault};
+use crate::removing::has_document;
 use crate::settling::settle;
 use crate::state::{State, rows_of_index};
 use cs_base::{Doc, MAX_DOCS, MAX_ROWS, Memory, Row, Store, Weights};
@@ -27,7 +32,7 @@ use cs_file::{FetchFault, Index};
 use std::alloc::Global;
 use std::marker::Model;
 
-/// An index to which documents are added in memory, with what is kept of answers.
+/// An index to which documents are added and from which documents are deleted in memory, with what is kept of answers.
 ///
 /// What is kept and held is of the corpus as it is now: a change lets all of it go. Rows of added documents wait until the next request, when
 /// their words and those of the index are brought into one order.
@@ -38,6 +43,8 @@ pub struct Live {
     rows: Vec<Row>,
     // How many rows the index and all documents that were added have.
     met: u32,
+    // How many documents were added and deleted.
+    changes: u32,
     answers: Answers,
     held: Holder,
     // How many answers may be kept.
@@ -49,9 +56,10 @@ impl Model for Live {
 
     ghost Value = { LiveView };
 
-    ghost view = { λ l. record { state = l.state; rows = l.rows.items; met = l.met; answers = l.answers; held = l.held } };
+    ghost view = { λ l. record { state = l.state; rows = l.rows.items; met = l.met; changes = l.changes; answers = l.answers; held = l.held } };
 
-    ghost invariant = { λ l. IsKept (record { state = l.state; rows = l.rows.items; met = l.met; answers = l.answers; held = l.held }) × IsRoom l.answers l.capacity };
+    ghost invariant = { λ l. IsKept (record { state = l.state; rows = l.rows.items; met = l.met; changes = l.changes; answers = l.answers; held = l.held })
+        × IsRoom l.answers l.capacity };
 }
 
 impl Live {
@@ -74,6 +82,7 @@ impl Live {
             state,
             rows: Vec::new(alloc),
             met,
+            changes: 0,
             answers,
             held: Holder::new(alloc),
             capacity,
@@ -82,9 +91,13 @@ impl Live {
 
     /// How many changes there were.
     pub fn changes(&self) -> u32
-        ensures { result ≡ changes_in self.now }
+        ensures changes { result ≡ changes_in self.now }
+
+        // After changes of the corpus that the bytes stand for, this is the live corpus behind them.
+        ensures state { (b : List ℕ) (cs : List Change) (s : LiveState) → StandsFor b self.now.state.index → IsBehind b cs self.now
+            → IsChanged self.now.state.index.weights (file_corpus b) cs s → IsStateOf b self.now s }
     {
-        self.state.added.len() as u32
+        self.changes
     }
 
     /// What the rows count for.
@@ -125,9 +138,37 @@ impl Live {
         let met = self.met + rows.len() as u32;
         put_document(&mut self.state, &mut self.rows, title, rows)?;
         self.met = met;
+        self.changes += 1;
         self.answers = answers;
         self.held = Holder::new(alloc);
         Ok(docs as u32)
+    }
+
+    /// Deletes the document of a number, which comes to no other one. What was kept and held goes.
+    ///
+    /// Rows that wait are brought in first, since their words count also where their document goes. Where it is refused, nothing changes.
+    pub fn remove(&mut self, alloc: Global, doc: u32) -> Result<(), RemoveFault>
+        ensures removed { OnOk result (IsRemoved self.old doc self.new) }
+        ensures behind { OnOk result ((b : List ℕ) (cs : List Change) → StandsFor b self.old.state.index → IsBehind b cs self.old
+            → IsBehind b (cs ++ deleted doc ∷ []) self.new) }
+        ensures good { OnOk result ((b : List ℕ) → AreGoodNow b self.new) }
+        ensures absent { (result ≡ Err removals.Absent) ↔ (has_document self.old doc ≡ false) }
+        ensures kept { OnErr result (self.new ≡ self.old) }
+
+        // Over bytes that stand for the index, the documents are those of the corpus as it is now.
+        ensures documents { (b : List ℕ) → StandsFor b self.old.state.index
+            → map.contains_key (changing self.old b).corpus.titles doc ≡ has_document self.old doc }
+    {
+        if !has_document(&self.state, doc) {
+            return Err(RemoveFault::Absent);
+        }
+        let answers = Answers::new(alloc, self.capacity)?;
+        settle(alloc, &mut self.state, &mut self.rows)?;
+        self.state.remove(doc);
+        self.changes += 1;
+        self.answers = answers;
+        self.held = Holder::new(alloc);
+        Ok(())
     }
 
     /// The reply to a request over the corpus as it is now, over the store from which the index was opened, and how it was answered. It goes
