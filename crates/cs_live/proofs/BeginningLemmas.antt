@@ -2,7 +2,7 @@
 --
 --   range_more       one number more
 --   opened_is        a state it is
---   opened_begins    its corpus is that of the bytes
+--   opened_corpus    its corpus is that of the bytes
 --   none_waiting     no rows wait
 use Rattle.std.proofs.Common.{◌≡◌, ℕ, zero, suc, ◌+◌, ◌<◌, ◌≤◌, max, Bool, true, false, cond, List, [], ◌∷◌, ◌++◌, length, get_or, map, replicate, refl, sym, ap, ap₂, subst, ◌∙◌, arith, append-nil}
 use Rattle.std.specs.Prelude.{All, filter, fold}
@@ -33,7 +33,7 @@ use Rattle.cs_model_index.specs.Numbered.{rows_at}
 use Rattle.cs_model_index.specs.Sections.{file_corpus, image_of}
 use Rattle.cs_model_index.proofs.ImageLemmas.{titles_listed}
 use Rattle.cs_model_index.proofs.TextLimits.{word_length}
-use Rattle.cs_live.specs.Lives.{AreWaiting, IsBehind, IsGoodRow, LiveView, changing}
+use Rattle.cs_live.specs.Lives.{AreWaiting, IsGoodRow, LiveView, changing}
 use Rattle.cs_live.specs.States.{IsState, StateView, now_posts, opened_state, renumbered, source_now, stock_now, titles_now}
 use Rattle.cs_live.proofs.TitleLemmas.{titled_all}
 
@@ -124,9 +124,8 @@ posts_stay i is b stands =
     ap (map (renumbered (range_with_len 0 (length i.words)))) all
     ∙ unmoved (length i.words) old (recursion_from_All (λ p. p.word < length i.words) old (All-weaker (IsWithin i.docs (length i.words)) (λ p. p.word < length i.words) (λ p h. h.word) old known))
 
-pub opened_begins : (i : IndexView) → IsIndex i → (b : List ℕ) → StandsFor b i → (l : LiveView) → l.state ≡ opened_state i → l.rows ≡ [] → IsBehind b [] l
-unfolding IsBehind
-opened_begins i is b stands l state rows =
+pub opened_corpus : (i : IndexView) → IsIndex i → (b : List ℕ) → StandsFor b i → (l : LiveView) → l.state ≡ opened_state i → l.rows ≡ [] → started (file_corpus b) ≡ changing l b
+opened_corpus i is b stands l state rows =
     let old = (stock_of b).posts in
     let ts = (image_of b).titles in
     let docs = docs_are b i stands is in
