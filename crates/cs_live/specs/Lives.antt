@@ -195,15 +195,15 @@ IsAfterNow k q l r new = IsAfterFor k q (engine_with (seen (source_now new.state
 
 -- ---- rows that wait
 -- the state has the words and the rows too; of no rows nothing changes
-pub record IsSettled (s : StateView) (rows : List Row) (new : StateView) : Type 0 where
+pub record IsSettled (s : StateView) (waited : List Row) (new : StateView) : Type 0 where
   pub is : IsState new
   pub index : new.index ≡ s.index
   pub present : new.present ≡ s.present
   pub whole : new.whole ≡ s.whole
   pub added : new.added ≡ s.added
-  pub words : new.words ≡ words_met s.words rows
-  pub rows : (b : List ℕ) → StandsFor b s.index → rows_at new.words (stock_now new b).posts ≡ rows_at s.words (stock_now s b).posts ++ rows
-  pub same : rows ≡ [] → new ≡ s
+  pub words : new.words ≡ words_met s.words waited
+  pub rows : (b : List ℕ) → StandsFor b s.index → rows_at new.words (stock_now new b).posts ≡ rows_at s.words (stock_now s b).posts ++ waited
+  pub same : waited ≡ [] → new ≡ s
 
 -- ---- what always holds
 -- its word has a word's form, and its position and score are those of its column
