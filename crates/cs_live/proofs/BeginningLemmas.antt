@@ -4,8 +4,7 @@
 --   opened_is        a state it is
 --   opened_corpus    its corpus is that of the bytes
 --   none_waiting     no rows wait
-use Rattle.std.proofs.Common.{◌≡◌, ℕ, zero, suc, ◌+◌, ◌<◌, ◌≤◌, max, Bool, true, false, cond, List, [], ◌∷◌, ◌++◌, length, get_or, map, replicate, refl, sym, ap, ap₂, subst, ◌∙◌, arith, append-nil}
-use Rattle.std.specs.Prelude.{All, filter, fold}
+use Rattle.std.proofs.Common.{◌≡◌, ℕ, zero, suc, ◌+◌, ◌<◌, ◌≤◌, max, true, false, List, [], ◌∷◌, ◌++◌, length, get_or, map, replicate, refl, sym, ap, ap₂, ◌∙◌, arith, append-nil}
 use Rattle.std.specs.List.{AllByRecursion, enumerate_from, range_with_len}
 use Rattle.std.specs.List.Sorted.{IsStrictlySortedBy}
 use Rattle.std.specs.Str.{is_utf8}
@@ -16,7 +15,6 @@ use Rattle.std.proofs.lemmas.List.Elements.{All-nil, All-from_recursion, All-wea
 use Rattle.cs_base.specs.content.Orders.{AreSorted, by_spot}
 use Rattle.cs_base.specs.declared.content.doc.Post.{Post}
 use Rattle.cs_base.specs.declared.content.doc.Row.{Row}
-use Rattle.cs_base.proofs.MembersLemmas.{all_then}
 use Rattle.cs_engine.specs.IndexReading.{IsWithin, stock_of}
 use Rattle.cs_engine.specs.Sources.{IsIn, is_there}
 use Rattle.cs_engine.proofs.CountingLemmas.{stock_within}
@@ -27,7 +25,7 @@ use Rattle.cs_engine.proofs.StockLemmas.{docs_are, stock_corpus, words_are}
 use Rattle.cs_file.specs.Indexes.{IndexView, IsIndex, StandsFor}
 use Rattle.cs_merge.specs.Vocabularies.{IsShift, nth_word}
 use Rattle.cs_model.specs.Corpus.{Corpus, by_number}
-use Rattle.cs_model_changes.specs.Changes.{Changing, first_behind, started}
+use Rattle.cs_model_changes.specs.Changes.{first_behind, started}
 use Rattle.cs_model_index.specs.FileRules.{is_word}
 use Rattle.cs_model_index.specs.Numbered.{rows_at}
 use Rattle.cs_model_index.specs.Sections.{file_corpus, image_of}

@@ -9,7 +9,7 @@ use Rattle.std.specs.Prelude.{All, filter, IfOk, Result, Ok, Err}
 use Rattle.std.specs.List.{AllByRecursion}
 use Rattle.std.specs.Str.{is_utf8}
 use Rattle.std.proofs.lemmas.Bool.{cases_lt}
-use Rattle.std.proofs.lemmas.List.{get_or_append_left, get_or-append_right, get_or-map, length-append, length-map, map-append, take_all, take_more}
+use Rattle.std.proofs.lemmas.List.{get_or_append_left, get_or-append_right, get_or-map, length-map, map-append, take_all, take_more}
 use Rattle.std.proofs.lemmas.List.Elements.{All-from_recursion, All-map, All-weaker, recursion_from_All}
 use Rattle.std.proofs.lemmas.Str.{IsUtf8-nil, is_utf8-from_IsUtf8}
 use Rattle.cs_base.specs.declared.content.doc.Post.{Post}
@@ -19,7 +19,7 @@ use Rattle.cs_file.specs.Indexes.{IndexView, IsIndex, StandsFor, block_posts, ti
 use Rattle.cs_file.specs.declared.fetched.Fetched.{Fetched}
 use Rattle.cs_model_index.specs.Sections.{image_of}
 use Rattle.cs_tables.specs.WordCounts.{is_chosen}
-use Rattle.cs_engine.specs.IndexReading.{IsWithin, stock_of}
+use Rattle.cs_engine.specs.IndexReading.{IsWithin}
 use Rattle.cs_engine.specs.Sources.{seen}
 use Rattle.cs_engine.specs.Stocked.{title_at}
 use Rattle.cs_engine.proofs.OpenedLemmas.{opened_title}

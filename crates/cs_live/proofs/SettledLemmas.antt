@@ -7,7 +7,7 @@
 --   settled_is      a state it is
 --   settled_rows    with the rows behind its own
 --   taken, none_settled    rows that wait are brought in; no rows are
-use Rattle.std.proofs.Common.{◌≡◌, ℕ, ◌+◌, ◌<◌, ◌≤◌, ◌&&◌, ◌||◌, Bool, true, false, List, [], ◌∷◌, ◌++◌, length, drop, get_or, map, refl, sym, ap, ap₂, subst, ◌∙◌, arith, append-nil, append_assoc, length-append}
+use Rattle.std.proofs.Common.{◌≡◌, ℕ, ◌+◌, ◌<◌, ◌≤◌, ◌||◌, Bool, true, false, List, [], ◌∷◌, ◌++◌, length, drop, get_or, map, refl, sym, ap, ap₂, subst, ◌∙◌, arith, append-nil, append_assoc, length-append}
 use Rattle.std.specs.Prelude.{All, filter}
 use Rattle.std.specs.List.{AllByRecursion, list_any}
 use Rattle.std.specs.List.Sorted.{IsStrictlySortedBy}
@@ -32,14 +32,13 @@ use Rattle.cs_base.specs.declared.content.doc.Row.{Row}
 use Rattle.cs_base.specs.declared.content.limits.TheConstants.{MAX_WORDS}
 use Rattle.cs_base.proofs.MembersLemmas.{all_then, is_member-listed, listed_itself, listing-rises, members-alike}
 use Rattle.cs_engine.specs.IndexReading.{IsWithin, stock_of}
-use Rattle.cs_engine.specs.Sources.{IsIn, is_there, seen}
+use Rattle.cs_engine.specs.Sources.{IsIn, is_there}
 use Rattle.cs_engine.proofs.CountingLemmas.{stock_within}
 use Rattle.cs_file.specs.Indexes.{StandsFor}
 use Rattle.cs_merge.specs.Vocabularies.{AreMerged, AreOfWordSize, IsShift, nth_word}
 use Rattle.cs_merge.specs.declared.vocabulary.Merging.{Merging}
 use Rattle.cs_vocab.specs.Ranges.{AreNumbers, IsBelow}
 use Rattle.cs_model.specs.Corpus.{distinct_words}
-use Rattle.cs_model_index.specs.FileRules.{is_word}
 use Rattle.cs_model_index.specs.Numbered.{HasWord, numbered, post_of, row_of, rows_at, word_at, word_number}
 use Rattle.cs_model_index.specs.Partitions.{is_facet}
 use Rattle.cs_model_index.proofs.Listings.{listed_each, listed_few}
@@ -49,7 +48,6 @@ use Rattle.cs_live.specs.Lives.{AreWaiting, IsGoodRow, IsSettled}
 use Rattle.cs_live.specs.Settling.{AreSettled, HaveWordSize, posts_by, words_met}
 use Rattle.cs_live.specs.States.{IsState, StateView, now_posts, renumbered, source_now, stock_now}
 use Rattle.cs_live.specs.declared.settling.Settled.{Settled}
-use Rattle.cs_live.proofs.NumberLemmas.{known_word}
 use Rattle.cs_live.proofs.NowLemmas.{all_now, new_rises, sorted_behind}
 
 -- ---- numbers through another vocabulary

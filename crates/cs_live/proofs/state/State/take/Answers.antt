@@ -1,7 +1,4 @@
-use Rattle.std.proofs.Common.{◌∙◌, ap}
-use Rattle.cs_live.specs.Lives.{IsSettled}
-use Rattle.cs_live.proofs.SettledLemmas.{good_size, settled_state, taken}
-use Rattle.cs_live.proofs.state.State.take.Given as given
+use Rattle.cs_live.proofs.SettledLemmas.{good_size, taken}
 use Rattle.cs_live.proofs.state.State.take.Goals as goal
 
 pub brought_in-requires-clause-row_sized : goal.brought_in-requires-clause-row_sized
