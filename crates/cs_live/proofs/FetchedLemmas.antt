@@ -233,8 +233,7 @@ module _ (shift : List ℕ) (present : List Bool) (docs words scores : List ℕ)
       let all : now_posts shift present (take (i + 1) posts) ≡ now_posts shift present (take i posts) ++ renumbered shift p ∷ [] =
       one_more posts i inside ∙ ap (λ l. now_posts shift present (take i posts) ++ l) here in
       let old = first posts are in
-      let before = now_posts shift present (take i posts) in
-      (
+      let before = now_posts shift present (take i posts) in (
         (
           d ∙ ap₂ (λ l n. l ++ n ∷ []) old.0.0 doc ∙ sym (map-append (λ p. p.doc) before (renumbered shift p ∷ [])) ∙ sym (ap (map (λ p. p.doc)) all),
           w ∙ ap₂ (λ l n. l ++ get_or shift n 0 ∷ []) old.0.1 word ∙ sym (map-append (λ p. p.word) before (renumbered shift p ∷ [])) ∙ sym (ap (map (λ p. p.word)) all),

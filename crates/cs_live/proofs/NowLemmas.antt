@@ -49,7 +49,7 @@ module _ (shift : List ℕ) (present : List Bool) where
   chosen_now t u posts agree =
       sym (filter_through (renumbered shift) u (filter (is_there present) posts))
       ∙ ap (map (renumbered shift)) (filter_alike (λ p. u (renumbered shift p)) t (filter (is_there present) posts)
-        (recursion_from_All (λ p. u (renumbered shift p) ≡ t p) (filter (is_there present) posts) (All-filter (is_there present) (λ p. u (renumbered shift p) ≡ t p) posts agree))
+      (recursion_from_All (λ p. u (renumbered shift p) ≡ t p) (filter (is_there present) posts) (All-filter (is_there present) (λ p. u (renumbered shift p) ≡ t p) posts agree))
       ∙ swapped posts)
     where
       swapped : (xs : List Post) → filter t (filter (is_there present) xs) ≡ filter (is_there present) (filter t xs)
@@ -59,15 +59,15 @@ module _ (shift : List ℕ) (present : List Bool) where
           elim (t x) as (λ b. t x ≡ b → filter t (cond (is_there present x) (x ∷ filter (is_there present) xs) (filter (is_there present) xs))
           ≡ filter (is_there present) (cond b (x ∷ filter t xs) (filter t xs))) [
             | true ↦ λ e. elim (is_there present x) as (λ c. filter t (cond c (x ∷ filter (is_there present) xs) (filter (is_there present) xs))
-            ≡ cond c (x ∷ filter (is_there present) (filter t xs)) (filter (is_there present) (filter t xs))) [
-              | true ↦ ap (λ b. cond b (x ∷ filter t (filter (is_there present) xs)) (filter t (filter (is_there present) xs))) e ∙ ap (λ l. x ∷ l) rest
-              | false ↦ rest
-            ]
+                ≡ cond c (x ∷ filter (is_there present) (filter t xs)) (filter (is_there present) (filter t xs))) [
+                  | true ↦ ap (λ b. cond b (x ∷ filter t (filter (is_there present) xs)) (filter t (filter (is_there present) xs))) e ∙ ap (λ l. x ∷ l) rest
+                  | false ↦ rest
+                ]
             | false ↦ λ e. elim (is_there present x) as (λ c. filter t (cond c (x ∷ filter (is_there present) xs) (filter (is_there present) xs))
-            ≡ filter (is_there present) (filter t xs)) [
-              | true ↦ ap (λ b. cond b (x ∷ filter t (filter (is_there present) xs)) (filter t (filter (is_there present) xs))) e ∙ rest
-              | false ↦ rest
-            ]
+                ≡ filter (is_there present) (filter t xs)) [
+                  | true ↦ ap (λ b. cond b (x ∷ filter t (filter (is_there present) xs)) (filter t (filter (is_there present) xs))) e ∙ rest
+                  | false ↦ rest
+                ]
           ] refl
 
   pub all_now : (P Q : Post → Type 0) (posts : List Post) → ((p : Post) → is_there present p ≡ true → P p → Q (renumbered shift p)) → All P posts

@@ -86,9 +86,9 @@ module _ (s : StateView) (d : ℕ) (b : List ℕ) where
   now_left posts =
       let t : Post → Bool = λ p. not (p.doc == d) in
       ap (map (renumbered s.shift))
-        (filter_alike (is_there (set s.present d false)) (λ p. is_there s.present p && t p) posts
-        (all_of (λ p. is_there (set s.present d false) p ≡ (is_there s.present p && t p))
-        (λ p. there_set s.present d p.doc ∙ there_and (p.doc == d) (get_or s.present p.doc false)) posts)
+      (filter_alike (is_there (set s.present d false)) (λ p. is_there s.present p && t p) posts
+      (all_of (λ p. is_there (set s.present d false) p ≡ (is_there s.present p && t p))
+      (λ p. there_set s.present d p.doc ∙ there_and (p.doc == d) (get_or s.present p.doc false)) posts)
       ∙ filter_twice (is_there s.present) t posts)
       ∙ filter_through (renumbered s.shift) t (filter (is_there s.present) posts)
 

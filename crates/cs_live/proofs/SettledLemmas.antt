@@ -305,7 +305,7 @@ module _ (s : StateView) (is : IsState s) (rows : List Row) (w : AreWaiting s ro
       ap₂ (λ xs ys. rows_at m.words (xs ++ ys)) front h.posts
       ∙ map-append (row_of m.words) (map (renumbered h.first) now) (map (renumbered h.first) s.held ++ own)
       ∙ ap₂ (λ xs ys. xs ++ ys) (moved_rows s.words m.words h.first h.is now now_words)
-        (map-append (row_of m.words) (map (renumbered h.first) s.held) own
+      (map-append (row_of m.words) (map (renumbered h.first) s.held) own
       ∙ ap₂ (λ xs ys. xs ++ ys) (moved_rows s.words m.words h.first h.is s.held held_words) (rows_of_numbered m.words rows known))
       ∙ sym (append_assoc (rows_at s.words now) (rows_at s.words s.held) rows)
       ∙ ap (λ xs. xs ++ rows) (sym (map-append (row_of s.words) now s.held))

@@ -37,10 +37,24 @@ impl Model for State {
     ghost Value = { StateView };
 
     ghost view = { λ s. record {
-        index = s.index; words = s.words; shift = s.shift.items; present = s.present.items; whole = s.whole; held = s.held.items; added = s.added } };
+      index = s.index;
+      words = s.words;
+      shift = s.shift.items;
+      present = s.present.items;
+      whole = s.whole;
+      held = s.held.items;
+      added = s.added;
+    } };
 
     ghost invariant = { λ s. IsState (record {
-        index = s.index; words = s.words; shift = s.shift.items; present = s.present.items; whole = s.whole; held = s.held.items; added = s.added }) };
+      index = s.index;
+      words = s.words;
+      shift = s.shift.items;
+      present = s.present.items;
+      whole = s.whole;
+      held = s.held.items;
+      added = s.added;
+    }) };
 }
 
 impl State {
@@ -101,8 +115,13 @@ impl State {
         ensures ok { OnOk result (IsSettled self.old rows.now self.new) }
         ensures err { OnErr result (self.new ≡ self.old) }
     {
-        let Settled { words, shift, held } =
-            brought_in(alloc, &self.words, &self.shift, &self.held, rows)?;
+        let Settled { words, shift, held } = brought_in(
+            alloc,
+            &self.words,
+            &self.shift,
+            &self.held,
+            rows,
+        )?;
         self.words = words;
         self.shift = shift;
         self.held = held;

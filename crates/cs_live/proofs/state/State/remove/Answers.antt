@@ -14,7 +14,21 @@ invariant_of-self c =
       | then-self w ↦ w.self-is ∙ ap (λ n. nat_le n d) c.docs_of.ensures ∙ sym (ap (λ b. b && nat_le i.index.docs d) w.if-self.true)
       | else-self w ↦ w.self-is ∙ w.if-self.false ∙ sym (ap (λ b. b && nat_le i.index.docs d) w.if-self.false)
     ] in
-    let state : ◌≡◌ {A = StateView} (without s d) (record { index = i.index; words = i.words; shift = i.shift.items; present = set i.present.items d false; whole = c.if-self.self;
-        held = c.forget.new.held.items; added = i.added }) = λ j. record {
-      index = i.index; words = i.words; shift = i.shift.items; present = set i.present.items d false; whole = sym whole j; held = sym c.forget.ensures j; added = i.added } in
+    let state : ◌≡◌ {A = StateView} (without s d) (record {
+      index = i.index;
+      words = i.words;
+      shift = i.shift.items;
+      present = set i.present.items d false;
+      whole = c.if-self.self;
+      held = c.forget.new.held.items;
+      added = i.added;
+    }) = λ j. record {
+      index = i.index;
+      words = i.words;
+      shift = i.shift.items;
+      present = set i.present.items d false;
+      whole = sym whole j;
+      held = sym c.forget.ensures j;
+      added = i.added;
+    } in
     subst IsState state (without_is s c.self.invariant d)
