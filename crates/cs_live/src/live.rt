@@ -134,13 +134,12 @@ impl Live {
         if !words_fit(alloc, &self.state.words, &self.rows, &rows)? {
             return Err(AddFault::FullWords);
         }
-        let answers = Answers::new(alloc, self.capacity)?;
+        let none = Answers::new(alloc, self.capacity)?;
         let met = self.met + rows.len() as u32;
         put_document(&mut self.state, &mut self.rows, title, rows)?;
         self.met = met;
         self.changes += 1;
-        self.answers = answers;
-        self.held = Holder::new(alloc);
+        forget(alloc, &mut self.answers, &mut self.held, none);
         Ok(docs as u32)
     }
 
@@ -162,12 +161,11 @@ impl Live {
         if !has_document(&self.state, doc) {
             return Err(RemoveFault::Absent);
         }
-        let answers = Answers::new(alloc, self.capacity)?;
+        let none = Answers::new(alloc, self.capacity)?;
         settle(alloc, &mut self.state, &mut self.rows)?;
         self.state.remove(doc);
         self.changes += 1;
-        self.answers = answers;
-        self.held = Holder::new(alloc);
+        forget(alloc, &mut self.answers, &mut self.held, none);
         Ok(())
     }
 
@@ -220,4 +218,13 @@ impl Live {
             &mut self.held,
         )
     }
+}
+
+// Lets all go that was kept and held of the corpus before a change.
+fn forget(alloc: Global, answers: &mut Answers, held: &mut Holder, none: Answers)
+    ensures answers { answers.new ≡ none }
+    ensures held { held.new ≡ [] }
+{
+    *answers = none;
+    *held = Holder::new(alloc);
 }
