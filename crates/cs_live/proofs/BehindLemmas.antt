@@ -14,6 +14,7 @@ use Rattle.std.proofs.lemmas.Cmp.{nat_list_cmp_total}
 use Rattle.std.proofs.lemmas.List.{length-map}
 use Rattle.std.proofs.lemmas.List.Concat.{length-flat_map}
 use Rattle.std.proofs.lemmas.List.Elements.{All-weaker, recursion_from_All}
+use Rattle.std.proofs.lemmas.List.Sums.{sum_by-cons}
 use Rattle.std.proofs.lemmas.Map.Lookups.{exact_bytes}
 use Rattle.cs_base.specs.content.Members.{members_in}
 use Rattle.cs_base.specs.declared.content.doc.Doc.{Doc}
@@ -65,7 +66,8 @@ same_sums f g [] [] x e h = refl
 same_sums f g [] (y ∷ ys) x e h = absurd (omega (arith, e))
 same_sums f g (z ∷ xs) [] x e h = absurd (omega (arith, e))
 same_sums f g (z ∷ xs) (y ∷ ys) x e h =
-    ap₂ (λ a b. a + b) (h 0 y (omega arith)) (same_sums f g xs ys x (omega (arith, e)) (λ k d lt. h (suc k) d (omega (arith, lt))))
+    sum_by-cons f z xs ∙ ap₂ (λ a b. a + b) (h 0 y (omega arith)) (same_sums f g xs ys x (omega (arith, e)) (λ k d lt. h (suc k) d (omega (arith, lt))))
+    ∙ sym (sum_by-cons g y ys)
 
 -- ---- an index file
 module _ (i : IndexView) (is : IsIndex i) (b : List ℕ) (stands : StandsFor b i) where

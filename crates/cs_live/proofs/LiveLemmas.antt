@@ -5,7 +5,7 @@
 --   added_*           a document that is added
 --   removed_*         a document that is deleted
 --   documents_are     which numbers are those of documents
-use Rattle.std.proofs.Common.{◌≡◌, ℕ, zero, suc, ◌+◌, ◌-◌, ◌<◌, ◌≤◌, Bool, true, false, true≢false, not, List, [], ◌∷◌, ◌++◌, length, get_or, set, map, replicate}
+use Rattle.std.proofs.Common.{◌≡◌, ℕ, zero, suc, ◌+◌, ◌-◌, ◌<◌, ◌≤◌, Bool, true, false, true≢false, cond, not, List, [], ◌∷◌, ◌++◌, length, get_or, set, map, replicate}
 use Rattle.std.proofs.Common.{refl, sym, ap, ap₂, subst, ◌∙◌, arith, append-nil, append_assoc, length-append, inl, inr}
 use Rattle.std.specs.Prelude.{All, count_by, filter, fold}
 use Rattle.std.specs.List.{IsDistinct, sum_by}
@@ -16,6 +16,7 @@ use Rattle.std.specs.Str.{is_utf8}
 use Rattle.std.proofs.lemmas.Cmp.{nat_list_cmp_total}
 use Rattle.std.proofs.lemmas.List.{length-set}
 use Rattle.std.proofs.lemmas.List.Elements.{All-nil}
+use Rattle.std.proofs.lemmas.List.Sums.{sum_by-set, sum_by_push}
 use Rattle.std.proofs.lemmas.Map.Lookups.{exact_bytes}
 use Rattle.cs_base.specs.content.Members.{members_in}
 use Rattle.cs_base.specs.content.Orders.{by_row}
@@ -84,16 +85,19 @@ none_gone zero = refl
 none_gone (suc n) = none_gone n
 
 there_more : (ps : List Bool) → count_by not (ps ++ true ∷ []) ≡ count_by not ps
-there_more [] = refl
-there_more (true ∷ ps) = there_more ps
-there_more (false ∷ ps) = ap (λ n. 1 + n) (there_more ps)
+there_more ps = let more = sum_by_push (λ x. cond (not x) 1 0) ps true in omega (arith, more)
+
+there_below : (ps : List Bool) (d : ℕ) → get_or ps d false ≡ true → d < length ps
+there_below [] d here = absurd (true≢false (sym here))
+there_below (p ∷ ps) zero here = omega arith
+there_below (p ∷ ps) (suc d) here = let lt = there_below ps d here in omega (arith, lt)
 
 gone_more : (ps : List Bool) (d : ℕ) → get_or ps d false ≡ true → count_by not (set ps d false) ≡ count_by not ps + 1
-gone_more [] d here = absurd (true≢false (sym here))
-gone_more (true ∷ ps) zero here = omega arith
-gone_more (false ∷ ps) zero here = absurd (true≢false (sym here))
-gone_more (true ∷ ps) (suc d) here = gone_more ps d here
-gone_more (false ∷ ps) (suc d) here = let more = gone_more ps d here in omega (arith, more)
+gone_more ps d here =
+    let one = sum_by-set (λ x. cond (not x) 1 0) ps d false false (there_below ps d here) in
+    let weight : Bool → ℕ = λ x. cond (not x) 1 0 in
+    let none : weight (get_or ps d false) ≡ 0 = ap weight here in
+    omega (arith, one, none)
 
 -- ---- the beginning
 pub kept_begins : (i : IndexView) → IsIndex i → (l : LiveView) (n : ℕ) → l.state ≡ opened_state i → l.rows ≡ [] → l.met ≡ sum_by (λ h. h.rows) i.heads → l.changes ≡ 0
