@@ -11,6 +11,7 @@ use Rattle.std.specs.Str.{is_utf8}
 use Rattle.std.proofs.lemmas.Bool.{cases_lt}
 use Rattle.std.proofs.lemmas.List.{get_or_append_left, get_or-append_right, get_or-map, length-append, length-map, map-append, take_all, take_more}
 use Rattle.std.proofs.lemmas.List.Elements.{All-from_recursion, All-map, All-weaker, recursion_from_All}
+use Rattle.std.proofs.lemmas.Str.{IsUtf8-nil, is_utf8-from_IsUtf8}
 use Rattle.cs_base.specs.declared.content.doc.Post.{Post}
 use Rattle.cs_base.specs.declared.content.scores.TheConstants.{MAX_ROW_SCORE}
 use Rattle.cs_file.specs.CallAnswers.{AreScoredOf, IsRanged}
@@ -264,7 +265,7 @@ module _ (shift : List ℕ) (present : List Bool) (docs words scores : List ℕ)
 -- ---- titles
 pub title_none : (i : IndexView) (told : Option (List ℕ)) (present : List Bool) (added : List (List ℕ)) (d : ℕ) (t : List ℕ) → get_or present d false ≡ false → t ≡ [] → IsTitle i told present added d t
 title_none i told present added d t away none = record {
-  text = ap is_utf8 none;
+  text = ap is_utf8 none ∙ is_utf8-from_IsUtf8 [] IsUtf8-nil;
   gone = λ e. none;
   old = λ here lt. absurd (true≢false (sym here ∙ away));
   new = λ here le. absurd (true≢false (sym here ∙ away));

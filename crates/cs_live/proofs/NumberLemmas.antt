@@ -7,7 +7,7 @@
 --   between_by           being between two numbers is being between their ranks
 --   old_range, old_span  the range or the span of words of the index
 --   old_met_prefix, old_met_word    how many blocks hold them
-use Rattle.std.proofs.Common.{◌≡◌, ℕ, zero, suc, ◌+◌, ◌<◌, ◌≤◌, ◌&&◌, true, false, cond, List, [], ◌∷◌, length, get_or}
+use Rattle.std.proofs.Common.{◌≡◌, ℕ, zero, suc, ◌+◌, ◌<◌, ◌≤◌, ◌&&◌, Bool, true, false, cond, List, [], ◌∷◌, length, get_or}
 use Rattle.std.proofs.Common.{refl, sym, ap, subst, ◌∙◌, arith, inl, inr}
 use Rattle.std.specs.Prelude.{All, filter, nat_le, nat_lt}
 use Rattle.std.specs.List.{AllByRecursion, list_any}
