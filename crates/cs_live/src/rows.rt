@@ -66,7 +66,8 @@ fn posts_now(
     Ok(kept)
 }
 
-fn renumbered(shift: &[u32], post: Post) -> Post
+/// A row of the index with the number that its word has now.
+pub(crate) fn renumbered(shift: &[u32], post: Post) -> Post
     requires { post.word < length shift.now }
 
     ensures { result ≡ renumbered shift.now post }
