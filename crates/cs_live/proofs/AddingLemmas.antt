@@ -210,7 +210,7 @@ module _ (s : StateView) (is : IsState s) (t : List ℕ) where
       all_spots : IsStrictlySortedBy by_spot all
       all_spots =
           let told = (state_told s is b stands).stocked in
-          spots_behind w.from (rows_at s.words posts) rows (rows_rise s.words told.words posts posts_words told.sorted) w.spots
+          spots_behind w.from (rows_at s.words posts) rows (rows_rise s.words told.words 0 0 posts posts_words told.sorted) w.spots
           (all_map (λ r. r.doc < w.from) (row_of s.words) posts posts_from) (recursion_from_All (λ r. w.from ≤ r.doc) rows w.rows_from)
 
       all_below : AllByRecursion (λ r. r.doc < n) all

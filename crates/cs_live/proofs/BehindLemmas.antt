@@ -94,7 +94,7 @@ module _ (i : IndexView) (is : IsIndex i) (b : List ℕ) (stands : StandsFor b i
       let docs_in = recursion_from_All (λ p. p.doc < len k.titles) posts (All-weaker (IsWithin i.docs (length i.words)) (λ p. p.doc < len k.titles)
       (λ p h. let lt = h.doc in omega (arith, lt, many)) posts (stock_within b i stands is).within) in
       subst (AreBelow (len k.titles)) same_rows (record {
-        up = rows_rise ws st.words posts words_in st.sorted;
+        up = rows_rise ws st.words 0 0 posts words_in st.sorted;
         below = all_map (λ r. r.doc < len k.titles) (row_of ws) posts docs_in;
       })
 
