@@ -2,7 +2,7 @@
 --
 --   fetched_ranged, fetched_sought, fetched_stood    the posts of a block that are sought
 --   scored_even, scored_docs, scored_words, scored_scores, scored_stood    its documents, words and scores
---   title_none, title_old, title_stood     a title
+--   title_none, title_new, title_old, title_stood     a title
 use Rattle.std.proofs.Common.{◌≡◌, ℕ, ◌+◌, ◌-◌, ◌<◌, ◌≤◌, ◌&&◌, Bool, true, false, true≢false, List, [], ◌∷◌, ◌++◌, length, get_or, take, map, Option, Some}
 use Rattle.std.proofs.Common.{cond, refl, sym, ap, ap₂, subst, ◌∙◌, arith, append-nil, get_or-take, inl, inr}
 use Rattle.std.specs.Prelude.{All, filter, IfOk, Result, Ok, Err}
@@ -269,6 +269,15 @@ title_none i told present added d t away none = record {
   gone = λ e. none;
   old = λ here lt. absurd (true≢false (sym here ∙ away));
   new = λ here le. absurd (true≢false (sym here ∙ away));
+}
+
+pub title_new : (i : IndexView) (told : Option (List ℕ)) (present : List Bool) (added : List (List ℕ)) (d : ℕ) (t : List ℕ) → get_or present d false ≡ true → i.docs ≤ d
+    → d < i.docs + length added → All (λ x. is_utf8 x ≡ true) added → t ≡ get_or added (d - i.docs) [] → IsTitle i told present added d t
+title_new i told present added d t here le lt texts is = record {
+  text = subst (λ x. is_utf8 x ≡ true) (sym is) (texts (d - i.docs) [] (omega (arith, le, lt)));
+  gone = λ away. absurd (true≢false (sym here ∙ away));
+  old = λ h less. absurd (omega (arith, le, less));
+  new = λ h l. is;
 }
 
 pub title_old : {E : Type 0} (i : IndexView) → IsIndex i → (told : Option (List ℕ)) (present : List Bool) (added : List (List ℕ)) (d : ℕ) → get_or present d false ≡ true → d < i.docs

@@ -6,7 +6,8 @@
 --   met_words       the words of a state and of rows that wait are words
 --   settled_is      a state it is
 --   settled_rows    with the rows behind its own
-use Rattle.std.proofs.Common.{◌≡◌, ℕ, ◌+◌, ◌<◌, ◌≤◌, ◌&&◌, ◌||◌, Bool, true, false, List, [], ◌∷◌, ◌++◌, length, drop, get_or, map, refl, sym, ap, ap₂, subst, ◌∙◌, arith, append_assoc, length-append}
+--   taken, none_settled    rows that wait are brought in; no rows are
+use Rattle.std.proofs.Common.{◌≡◌, ℕ, ◌+◌, ◌<◌, ◌≤◌, ◌&&◌, ◌||◌, Bool, true, false, List, [], ◌∷◌, ◌++◌, length, drop, get_or, map, refl, sym, ap, ap₂, subst, ◌∙◌, arith, append-nil, append_assoc, length-append}
 use Rattle.std.specs.Prelude.{All, filter}
 use Rattle.std.specs.List.{AllByRecursion, list_any}
 use Rattle.std.specs.List.Sorted.{IsStrictlySortedBy}
@@ -29,7 +30,7 @@ use Rattle.cs_base.specs.content.Orders.{AreDocs, AreSorted}
 use Rattle.cs_base.specs.declared.content.doc.Post.{Post}
 use Rattle.cs_base.specs.declared.content.doc.Row.{Row}
 use Rattle.cs_base.specs.declared.content.limits.TheConstants.{MAX_WORDS}
-use Rattle.cs_base.proofs.MembersLemmas.{all_then, is_member-listed, listing-rises, members-alike}
+use Rattle.cs_base.proofs.MembersLemmas.{all_then, is_member-listed, listed_itself, listing-rises, members-alike}
 use Rattle.cs_engine.specs.IndexReading.{IsWithin, stock_of}
 use Rattle.cs_engine.specs.Sources.{IsIn, is_there, seen}
 use Rattle.cs_engine.proofs.CountingLemmas.{stock_within}
@@ -310,3 +311,33 @@ module _ (s : StateView) (is : IsState s) (rows : List Row) (w : AreWaiting s ro
       ∙ ap₂ (λ xs ys. xs ++ ys) (moved_rows s.words m.words h.first h.is s.held held_words) (rows_of_numbered m.words rows known))
       ∙ sym (append_assoc (rows_at s.words now) (rows_at s.words s.held) rows)
       ∙ ap (λ xs. xs ++ rows) (sym (map-append (row_of s.words) now s.held))
+
+-- where the state's own parts were handed on
+pub taken : (s now : StateView) → s ≡ now → IsState now → (rows : List Row) → AreWaiting now rows → (shift : List ℕ) → shift ≡ s.shift → (held : List Post) → held ≡ s.held
+    → (m : Settled) → AreSettled s.words shift held rows m → length (words_met now.words rows) ≤ MAX_WORDS → 1 ≤ length rows → IsSettled now rows (settled_state s m)
+taken s now same is rows w shift shift_is held held_is m h few some =
+    let own : AreSettled now.words now.shift now.held rows m = subst (λ x. AreSettled x.words x.shift x.held rows m) same
+    (subst (λ ps. AreSettled s.words s.shift ps rows m) held_is (subst (λ ns. AreSettled s.words ns held rows m) shift_is h)) in
+    subst (λ x. IsSettled now rows (settled_state x m)) (sym same) (record {
+      is = settled_is now is rows w m own few;
+      index = refl;
+      present = refl;
+      whole = refl;
+      added = refl;
+      words = own.all;
+      rows = settled_rows now is rows w m own;
+      same = λ none. absurd (let e = ap length none in omega (arith, e, some));
+    })
+
+-- where no rows wait
+pub none_settled : (s : StateView) → IsState s → (rows : List Row) → rows ≡ [] → IsSettled s rows s
+none_settled s is rows none = subst (λ rs. IsSettled s rs s) (sym none) (record {
+  is = is;
+  index = refl;
+  present = refl;
+  whole = refl;
+  added = refl;
+  words = listed_itself (slice_cmp nat_cmp) nat_list_cmp_total exact_bytes s.words is.ascending ∙ ap (members_in (slice_cmp nat_cmp)) (sym (append-nil s.words));
+  rows = λ b stands. sym (append-nil (rows_at s.words (stock_now s b).posts));
+  same = λ e. refl;
+})
