@@ -1,11 +1,11 @@
 -- A document that is added.
 --
---   own_any         its rows are those of the document under its number
---   own_good, own_docs, own_spots     good rows, of its number, in order
+--   still           what a loop that writes over a list hasn't reached
+--   own_good, own_text      good rows, and a text as title
 --   titled_is       a state with one title more
 --   titled_posts    its posts stay
 --   waiting_more    rows that wait, and those of the document behind them
---   added_corpus    the corpus with the document
+--   rows_more       all rows with those of the document
 use Rattle.std.proofs.Common.{◌≡◌, ℕ, zero, suc, take, drop, ◌+◌, ◌<◌, ◌≤◌, ◌&&◌, ◌||◌, Bool, true, false, cond, List, [], ◌∷◌, ◌++◌, length, get_or, map, Option, Some, None, refl, sym, ap, ap₂, subst, ◌∙◌, arith, append-nil, append_assoc, length-append}
 use Rattle.std.specs.Prelude.{All, filter, fold}
 use Rattle.std.specs.List.{AllByRecursion, enumerate_from, list_any}
@@ -55,119 +55,30 @@ use Rattle.cs_model_index.proofs.ReadRows.{rows_rise}
 use Rattle.cs_live.specs.Lives.{AreWaiting, IsAccepted, IsGoodRow, LiveView, changing, rows_now}
 use Rattle.cs_live.specs.States.{IsState, StateView, now_posts, renumbered, source_now, stock_now, with_title}
 use Rattle.cs_live.proofs.NowLemmas.{all_now}
+use Rattle.cs_live.proofs.OwnRows.{all_map, own_any, own_docs, own_spots, spots_behind}
 use Rattle.cs_live.proofs.StateLemmas.{state_told}
 
 -- ---- lists
-all_map : {X Y : Type 0} (P : Y → Type 0) (f : X → Y) (xs : List X) → AllByRecursion (λ x. P (f x)) xs → AllByRecursion P (map f xs)
-all_map P f [] h = tt
-all_map P f (x ∷ xs) h = (h.0, all_map P f xs h.1)
-
 -- what a loop that writes over a list hasn't reached
 pub still : {X : Type 0} (f : X → X) (xs ys : List X) (i : ℕ) (d : X) → i < length xs → ys ≡ map f (take i xs) ++ drop i xs → get_or ys i d ≡ get_or xs i d
 still f [] ys i d lt e = absurd (omega (arith, lt))
 still f (x ∷ xs) ys zero d lt e = ap (λ l. get_or l 0 d) e
 still f (x ∷ xs) ys (suc i) d lt e = ap (λ l. get_or l (suc i) d) e ∙ still f xs (map f (take i xs) ++ drop i xs) i d (omega (arith, lt)) refl
 
--- ---- rows under a later document
-later_placed : (n score : ℕ) (ps : List (ℕ × List ℕ)) → map (later_row n) (map (placed 0 score) ps) ≡ map (placed (0 + n) score) ps
-later_placed n score [] = refl
-later_placed n score (p ∷ ps) = ap (λ l. later_row n (placed 0 score p) ∷ l) (later_placed n score ps)
-
-later_facets : (n score : ℕ) (ws : List (List ℕ)) → map (later_row n) (map (λ w. placed 0 score (0, w)) ws) ≡ map (λ w. placed (0 + n) score (0, w)) ws
-later_facets n score [] = refl
-later_facets n score (w ∷ ws) = ap (λ l. later_row n (placed 0 score (0, w)) ∷ l) (later_facets n score ws)
-
-later_doc : (w : Weights) (n : ℕ) (doc : Doc) → map (later_row n) (doc_rows w (0, doc)) ≡ doc_rows w (0 + n, doc)
-later_doc w n doc =
-    map-append (later_row n) (facet_rows w 0 doc ++ title_rows w 0 doc) (text_rows w 0 doc)
-    ∙ ap₂ (λ x y. x ++ y)
-    (map-append (later_row n) (facet_rows w 0 doc) (title_rows w 0 doc)
-    ∙ ap₂ (λ x y. x ++ y) (later_facets n w.facet (facet_words doc.facets)) (later_placed n w.title (enumerate_from 1 (words doc.title))))
-    (later_placed n w.text (enumerate_from (length (words doc.title) + BEHIND_TITLE) (words doc.text)))
-
-same_order : (a b n : ℕ) → nat_cmp (a + n) (b + n) ≡ nat_cmp a b
-same_order a b n = grind (arith, nat_tests)
-
-later_less : (n : ℕ) (r q : Row) → by_spot r q ≡ Less → by_spot (later_row n r) (later_row n q) ≡ Less
-later_less n r q h = ap (λ o. ordering_then o (ordering_then (nat_cmp r.pos q.pos) (slice_cmp nat_cmp r.word q.word))) (same_order r.doc q.doc n) ∙ h
-
-later_rest : (n : ℕ) (r : Row) (rs : List Row) → AllByRecursion (λ q. by_spot r q ≡ Less) rs → AllByRecursion (λ q. by_spot (later_row n r) q ≡ Less) (map (later_row n) rs)
-later_rest n r [] h = tt
-later_rest n r (q ∷ rs) h = (later_less n r q h.0, later_rest n r rs h.1)
-
-later_rises : (n : ℕ) (rs : List Row) → IsStrictlySortedBy by_spot rs → IsStrictlySortedBy by_spot (map (later_row n) rs)
-unfolding IsStrictlySortedBy
-later_rises n [] h = tt
-later_rises n (r ∷ rs) h = (later_rest n r rs h.0, later_rises n rs h.1)
-
-less_doc : (r q : Row) (n : ℕ) → r.doc < n → n ≤ q.doc → by_spot r q ≡ Less
-less_doc r q n lt le = ap (λ o. ordering_then o (ordering_then (nat_cmp r.pos q.pos) (slice_cmp nat_cmp r.word q.word))) (Less-from_lt r.doc q.doc (omega (arith, lt, le)))
-
-behind_rest : (n : ℕ) (r : Row) (xs ys : List Row) → r.doc < n → AllByRecursion (λ q. by_spot r q ≡ Less) xs → AllByRecursion (λ q. n ≤ q.doc) ys
-    → AllByRecursion (λ q. by_spot r q ≡ Less) (xs ++ ys)
-behind_rest n r [] ys lt h k = all_then (λ q. n ≤ q.doc) (λ q. by_spot r q ≡ Less) (λ q le. less_doc r q n lt le) ys k
-behind_rest n r (x ∷ xs) ys lt h k = (h.0, behind_rest n r xs ys lt h.1 k)
-
-spots_behind : (n : ℕ) (xs ys : List Row) → IsStrictlySortedBy by_spot xs → IsStrictlySortedBy by_spot ys → AllByRecursion (λ r. r.doc < n) xs
-    → AllByRecursion (λ q. n ≤ q.doc) ys → IsStrictlySortedBy by_spot (xs ++ ys)
-unfolding IsStrictlySortedBy
-spots_behind n [] ys up_x up_y a b = up_y
-spots_behind n (x ∷ xs) ys up_x up_y a b = (behind_rest n x xs ys a.0 up_x.0 b, spots_behind n xs ys up_x.1 up_y a.1 b)
-
 -- ---- the rows of a document
-module _ (w : Weights) (n : ℕ) (doc : Doc) where
-  abbrev pub numbered_rows : List Row
-  numbered_rows = map (later_row n) (rows_of w (doc ∷ []))
+module _ (w : Weights) (n : ℕ) (doc : Doc) (a : IsAccepted w doc) where
+  limits : KeepLimits w (map title_of (doc ∷ [])) (rows_of w (doc ∷ []))
+  limits =
+      subst (λ ds. KeepLimits w (map title_of ds) (rows_of w ds)) (sym a.documents)
+      (subst (λ v. KeepLimits v (map title_of (documents a.collection)) (rows_of v (documents a.collection))) a.weights (keep_limits a.collection a.accepted))
 
-  pub own_any : (t : Row → Bool) → list_any t (map (later_row n) (rows_of w (doc ∷ []))) ≡ list_any t (doc_rows w (n, doc))
-  own_any t =
-      let number : 0 + n ≡ n = omega arith in
-      any_through (later_row n) t (rows_of w (doc ∷ []))
-      ∙ any_listed by_row by_row_total by_row_exact (λ r. t (later_row n r)) (doc_rows w (0, doc) ++ [])
-      ∙ ap (list_any (λ r. t (later_row n r))) (append-nil (doc_rows w (0, doc)))
-      ∙ sym (any_through (later_row n) t (doc_rows w (0, doc)))
-      ∙ ap (list_any t) (later_doc w n doc ∙ ap (λ d. doc_rows w (d, doc)) number)
+  pub own_good : All (IsGoodRow w) (map (later_row n) (rows_of w (doc ∷ [])))
+  own_good =
+      let rows = rows_of w (doc ∷ []) in
+      All-map (IsGoodRow w) (later_row n) rows (λ k d l. record { word = limits.words k d l; scored = limits.scored k d l })
 
-  pub own_docs : AllByRecursion (λ r. r.doc ≡ n) (map (later_row n) (rows_of w (doc ∷ [])))
-  own_docs =
-      all_map (λ r. r.doc ≡ n) (later_row n) (rows_of w (doc ∷ []))
-      (all_then (λ r. r.doc < 1) (λ r. r.doc + n ≡ n) (λ r lt. omega (arith, lt)) (rows_of w (doc ∷ [])) (docs-below w (doc ∷ [])))
-
-  pub first_docs : AllByRecursion (λ r. r.doc ≡ 0) (rows_of w (doc ∷ []))
-  first_docs = all_then (λ r. r.doc < 1) (λ r. r.doc ≡ 0) (λ r lt. omega (arith, lt)) (rows_of w (doc ∷ [])) (docs-below w (doc ∷ []))
-
-  pub own_spots : IsStrictlySortedBy by_spot (map (later_row n) (rows_of w (doc ∷ [])))
-  own_spots = later_rises n (rows_of w (doc ∷ [])) (spots-rise w (doc ∷ []))
-
-  module _ (a : IsAccepted w doc) where
-    limits : KeepLimits w (map title_of (doc ∷ [])) (rows_of w (doc ∷ []))
-    limits =
-        subst (λ ds. KeepLimits w (map title_of ds) (rows_of w ds)) (sym a.documents)
-        (subst (λ v. KeepLimits v (map title_of (documents a.collection)) (rows_of v (documents a.collection))) a.weights (keep_limits a.collection a.accepted))
-
-    pub own_good : All (IsGoodRow w) (map (later_row n) (rows_of w (doc ∷ [])))
-    own_good =
-        let rows = rows_of w (doc ∷ []) in
-        All-map (IsGoodRow w) (later_row n) rows (λ k d l. record { word = limits.words k d l; scored = limits.scored k d l })
-
-    pub own_text : is_utf8 doc.title ≡ true
-    own_text = is_utf8-from_IsUtf8 doc.title (limits.texts 0 [] (omega arith))
-
--- ---- titles
-not_itself : (q a : ℕ) → a < q → eq_by_cmp nat_cmp q a ≡ false
-not_itself q a h = grind (arith, nat_tests)
-
-none_behind : (q a : ℕ) (ts : List (List ℕ)) → a + length ts ≤ q → find nat_cmp q (enumerate_from a ts) ≡ None
-none_behind q a [] h = refl
-none_behind q a (t ∷ ts) h =
-    ap (λ b. cond b (Some t) (find nat_cmp q (enumerate_from (a + 1) ts))) (not_itself q a (omega (arith, h)))
-    ∙ none_behind q (a + 1) ts (omega (arith, h))
-
-pub one_title : (ts : List (List ℕ)) (t : List ℕ) (n : ℕ) → n ≡ length ts → by_number (ts ++ t ∷ []) ≡ insert (by_number ts) n t
-one_title ts t n e =
-    let number : 0 + length ts ≡ n = omega (arith, e) in
-    ap (λ es. from_entries {R = nat_cmp} es) (numbered 0 ts (t ∷ []) ∙ ap (λ m. enumerate_from 0 ts ++ (m, t) ∷ []) number)
-    ∙ from_entries_push nat_cmp_total nat_cmp-IsAntisymmetric (enumerate_from 0 ts) n t (none_behind n 0 ts (omega (arith, e)))
+  pub own_text : is_utf8 doc.title ≡ true
+  own_text = is_utf8-from_IsUtf8 doc.title (limits.texts 0 [] (omega arith))
 
 -- ---- one title more
 there_more : (ps : List Bool) (d : ℕ) → d < length ps → get_or (ps ++ true ∷ []) d false ≡ get_or ps d false
@@ -293,14 +204,13 @@ module _ (s : StateView) (is : IsState s) (t : List ℕ) where
 
       posts_below : AllByRecursion (λ p. p.doc < n) posts
       posts_below =
-          let told = (state_told s is b stands).stocked in
-          let docs = (state_told s is b stands).docs in
-          recursion_from_All (λ p. p.doc < n) posts (λ k d l. let lt = (told.known k d l).doc in omega (arith, lt, docs))
+          let upto = w.upto in
+          all_then (λ p. p.doc < w.from) (λ p. p.doc < n) (λ p lt. omega (arith, lt, upto)) posts posts_from
 
       all_spots : IsStrictlySortedBy by_spot all
       all_spots =
           let told = (state_told s is b stands).stocked in
-          spots_behind w.from (rows_at s.words posts) rows (rows_rise s.words told.words posts posts_words told.sorted) w.spots
+          spots_behind w.from (rows_at s.words posts) rows (rows_rise s.words told.words 0 0 posts posts_words told.sorted) w.spots
           (all_map (λ r. r.doc < w.from) (row_of s.words) posts posts_from) (recursion_from_All (λ r. w.from ≤ r.doc) rows w.rows_from)
 
       all_below : AllByRecursion (λ r. r.doc < n) all

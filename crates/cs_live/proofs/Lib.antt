@@ -6,5 +6,8 @@ pub mod FetchedLemmas
 pub mod BeginningLemmas
 pub mod RemovedLemmas
 pub mod SettledLemmas
+pub mod OwnRows
+pub mod MetRows
 pub mod AddingLemmas
+pub mod BehindLemmas
 pub mod LiveLemmas

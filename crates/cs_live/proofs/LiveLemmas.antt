@@ -2,17 +2,21 @@
 --
 --   kept_begins       before the first change
 --   settled_*         rows that waited brought in: what is kept and held stays right
---   behind_one        one change more
 --   added_*           a document that is added
-use Rattle.std.proofs.Common.{◌≡◌, ℕ, ◌+◌, ◌-◌, ◌<◌, ◌≤◌, Bool, true, false, List, [], ◌∷◌, ◌++◌, length, map, refl, sym, ap, ap₂, subst, ◌∙◌, arith, append-nil, append_assoc, length-append, inl, inr}
-use Rattle.std.specs.Prelude.{All, fold}
+--   removed_*         a document that is deleted
+--   documents_are     which numbers are those of documents
+use Rattle.std.proofs.Common.{◌≡◌, ℕ, zero, suc, ◌+◌, ◌-◌, ◌<◌, ◌≤◌, Bool, true, false, true≢false, cond, not, List, [], ◌∷◌, ◌++◌, length, get_or, set, map, replicate}
+use Rattle.std.proofs.Common.{refl, sym, ap, ap₂, subst, ◌∙◌, arith, append-nil, append_assoc, length-append, inl, inr}
+use Rattle.std.specs.Prelude.{All, count_by, filter, fold}
 use Rattle.std.specs.List.{IsDistinct, sum_by}
-use Rattle.std.specs.FinMap.{insert}
+use Rattle.std.specs.FinMap.{contains_key, insert, remove}
 use Rattle.std.specs.Ordering.{nat_cmp}
 use Rattle.std.specs.Cmp.Lexicographic.{slice_cmp}
 use Rattle.std.specs.Str.{is_utf8}
 use Rattle.std.proofs.lemmas.Cmp.{nat_list_cmp_total}
+use Rattle.std.proofs.lemmas.List.{length-set}
 use Rattle.std.proofs.lemmas.List.Elements.{All-nil}
+use Rattle.std.proofs.lemmas.List.Sums.{sum_by-set, sum_by_push}
 use Rattle.std.proofs.lemmas.Map.Lookups.{exact_bytes}
 use Rattle.cs_base.specs.content.Members.{members_in}
 use Rattle.cs_base.specs.content.Orders.{by_row}
@@ -29,18 +33,22 @@ use Rattle.cs_engine.specs.Stocked.{corpus_in}
 use Rattle.cs_engine.specs.IndexReading.{stock_of}
 use Rattle.cs_engine.specs.declared.held.HeldRange.{HeldRange}
 use Rattle.cs_file.specs.Indexes.{IndexView, IsIndex, StandsFor}
-use Rattle.cs_model.specs.Corpus.{Corpus, by_number, doc_rows, rows_of}
+use Rattle.cs_model.specs.Answers.{in_doc}
+use Rattle.cs_model.specs.Corpus.{Corpus, doc_rows, rows_of}
 use Rattle.cs_model_kept.specs.KeptList.{GoodFor, IsOwn}
-use Rattle.cs_model_changes.specs.Changes.{Change, Changing, added, applied, now, started}
+use Rattle.cs_model_changes.specs.Changes.{Change, Changing, added, applied, deleted, now}
 use Rattle.cs_model_changes.specs.Joined.{later_row}
 use Rattle.cs_model_index.specs.Numbered.{rows_at}
-use Rattle.cs_model_index.specs.Sections.{file_corpus}
+use Rattle.cs_model_index.specs.Sections.{file_corpus, image_of}
 use Rattle.cs_model_index.proofs.Listings.{listed_few}
-use Rattle.cs_live.specs.Lives.{AreGoodNow, AreWaiting, IsAccepted, IsAdded, IsBehind, IsFresh, IsKept, IsLive, IsSettled, LiveView, changing, next_number, own_rows}
+use Rattle.cs_live.specs.Lives.{AreGoodNow, AreWaiting, IsAccepted, IsAdded, IsBehind, IsFresh, IsKept, IsLive, IsRemoved, IsSettled, LiveView, changing, has_document, next_number, own_rows}
 use Rattle.cs_live.specs.Settling.{words_met}
-use Rattle.cs_live.specs.States.{IsState, StateView, opened_state, source_now, stock_now, with_title}
-use Rattle.cs_live.proofs.AddingLemmas.{one_title, rows_more, titled_is, titled_posts, waiting_more}
-use Rattle.cs_live.proofs.StateLemmas.{state_told}
+use Rattle.cs_live.specs.States.{IsState, StateView, opened_state, source_now, stock_now, titles_now, with_title, without}
+use Rattle.cs_live.proofs.AddingLemmas.{rows_more, titled_is, titled_posts, waiting_more}
+use Rattle.cs_live.proofs.RemovedLemmas.{without_is, without_rows, without_titles}
+use Rattle.cs_live.proofs.SettledLemmas.{met_twice}
+use Rattle.cs_live.proofs.StateLemmas.{titles_long}
+use Rattle.cs_live.proofs.TitleLemmas.{titled_more, titled_there}
 use Rattle.cs_live.proofs.BeginningLemmas.{none_waiting, opened_is}
 
 -- ---- words
@@ -71,10 +79,30 @@ empty_kept s a n none = subst (KeepsFitting (seen (source_now s))) (sym (ap (λ 
 pub empty_held : (s : StateView) (held : List HeldRange) → held ≡ [] → All (FitsRange (seen (source_now s))) held
 empty_held s held none = subst (All (FitsRange (seen (source_now s)))) (sym none) (All-nil (FitsRange (seen (source_now s))))
 
+-- ---- changes are counted
+none_gone : (n : ℕ) → 0 + count_by not (replicate n true) ≡ 0
+none_gone zero = refl
+none_gone (suc n) = none_gone n
+
+there_more : (ps : List Bool) → count_by not (ps ++ true ∷ []) ≡ count_by not ps
+there_more ps = let more = sum_by_push (λ x. cond (not x) 1 0) ps true in omega (arith, more)
+
+there_below : (ps : List Bool) (d : ℕ) → get_or ps d false ≡ true → d < length ps
+there_below [] d here = absurd (true≢false (sym here))
+there_below (p ∷ ps) zero here = omega arith
+there_below (p ∷ ps) (suc d) here = let lt = there_below ps d here in omega (arith, lt)
+
+gone_more : (ps : List Bool) (d : ℕ) → get_or ps d false ≡ true → count_by not (set ps d false) ≡ count_by not ps + 1
+gone_more ps d here =
+    let one = sum_by-set (λ x. cond (not x) 1 0) ps d false false (there_below ps d here) in
+    let weight : Bool → ℕ = λ x. cond (not x) 1 0 in
+    let none : weight (get_or ps d false) ≡ 0 = ap weight here in
+    omega (arith, one, none)
+
 -- ---- the beginning
-pub kept_begins : (i : IndexView) → IsIndex i → (l : LiveView) (n : ℕ) → l.state ≡ opened_state i → l.rows ≡ [] → l.met ≡ sum_by (λ h. h.rows) i.heads → l.answers ≡ answer_list [] n
-    → l.held ≡ [] → IsKept l
-kept_begins i is l n state rows met none_a none_h =
+pub kept_begins : (i : IndexView) → IsIndex i → (l : LiveView) (n : ℕ) → l.state ≡ opened_state i → l.rows ≡ [] → l.met ≡ sum_by (λ h. h.rows) i.heads → l.changes ≡ 0
+    → l.answers ≡ answer_list [] n → l.held ≡ [] → IsKept l
+kept_begins i is l n state rows met changes none_a none_h =
     let of_state : IsState l.state = subst IsState (sym state) (opened_is i is) in
     let few = is.few_rows in
     let words = few_met l.state.words in
@@ -82,12 +110,12 @@ kept_begins i is l n state rows met none_a none_h =
     record {
       live = subst (λ rs. IsLive l.state rs l.met) (sym rows) (record {
         state = of_state;
-        whole = ap (λ (s : StateView). s.whole) state;
         waiting = none_waiting l.state of_state;
         few = omega arith;
         few_rows = omega (arith, few, met);
         few_words = omega (arith, words, few_words);
       });
+      counted = changes ∙ sym (ap₂ (λ a ps. a + count_by not ps) (ap (λ (s : StateView). length s.added) state) (ap (λ (s : StateView). s.present) state) ∙ none_gone i.docs);
       fresh = inl rows;
       answers = empty_kept l.state l.answers n none_a;
       held = empty_held l.state l.held none_h;
@@ -104,7 +132,6 @@ module _ (l : LiveView) (k : IsKept l) (new : StateView) (h : IsSettled l.state 
       let same = ap length h.words in
       record {
         state = h.is;
-        whole = h.whole ∙ live.whole;
         waiting = none_waiting new h.is;
         few = omega arith;
         few_rows = few_rows;
@@ -133,8 +160,8 @@ module _ (l : LiveView) (k : IsKept l) (new : StateView) (h : IsSettled l.state 
       ]
 
   module _ (b : List ℕ) (stands : StandsFor b l.state.index) where
-    titles_stay : by_number (stock_now new b).titles ≡ by_number (stock_now l.state b).titles
-    titles_stay = ap (λ ts. by_number ((stock_of b).titles ++ ts)) h.added
+    titles_stay : (stock_now new b).titles ≡ (stock_now l.state b).titles
+    titles_stay = ap₂ (λ ps ts. titles_now ps ((image_of b).titles ++ ts)) h.present h.added
 
     -- of a state with all rows the stock's corpus is the corpus now
     pub settled_corpus : (changing l b).corpus ≡ corpus_in (stock_now new b)
@@ -142,39 +169,23 @@ module _ (l : LiveView) (k : IsKept l) (new : StateView) (h : IsSettled l.state 
         let rows = h.rows b stands in
         λ j. record { titles = titles_stay (~ j); rows = rows (~ j) }
 
-    pub settled_behind : (m : LiveView) → m.state ≡ new → m.rows ≡ [] → changing l b ≡ changing m b
-    settled_behind m state none =
-        let titles : by_number (stock_now l.state b).titles ≡ by_number (stock_now m.state b).titles =
-        sym titles_stay ∙ ap (λ (s : StateView). by_number (stock_now s b).titles) (sym state) in
+    pub settled_same : (m : LiveView) → m.state ≡ new → m.rows ≡ [] → changing l b ≡ changing m b
+    settled_same m state none =
+        let titles : (stock_now l.state b).titles ≡ (stock_now m.state b).titles =
+        sym titles_stay ∙ ap (λ (s : StateView). (stock_now s b).titles) (sym state) in
         let rows : rows_at l.state.words (stock_now l.state b).posts ++ l.rows ≡ rows_at m.state.words (stock_now m.state b).posts ++ m.rows =
         sym (h.rows b stands) ∙ ap (λ (s : StateView). rows_at s.words (stock_now s b).posts) (sym state)
         ∙ sym (ap (λ rs. rows_at m.state.words (stock_now m.state b).posts ++ rs) none ∙ append-nil (rows_at m.state.words (stock_now m.state b).posts)) in
         let next : length l.state.present ≡ length m.state.present = ap length (sym h.present) ∙ ap (λ (s : StateView). length s.present) (sym state) in
         λ j. record { corpus = record { titles = titles j; rows = rows j }; next = next j }
 
-pub behind_same : (b : List ℕ) (cs : List Change) (l m : LiveView) → l.state.index ≡ m.state.index → changing l b ≡ changing m b → IsBehind b cs l → IsBehind b cs m
-unfolding IsBehind
-behind_same b cs l m index same h = sym (ap (λ (i : IndexView). fold (applied i.weights) (started (file_corpus b)) cs) index) ∙ h ∙ same
-
 pub behind_now : (b : List ℕ) (cs : List Change) (l : LiveView) → IsBehind b cs l → (changing l b).corpus ≡ now l.state.index.weights (file_corpus b) cs
-unfolding IsBehind
-behind_now b cs l h = ap (λ (c : Changing). c.corpus) (sym h)
+behind_now b cs l h = ap (λ (c : Changing). c.corpus) (sym h.corpus)
 
 -- ---- one document more
-fold_one : (w : Weights) (s : Changing) (cs : List Change) (c : Change) → fold (applied w) s (cs ++ c ∷ []) ≡ applied w (fold (applied w) s cs) c
-fold_one w s [] c = refl
-fold_one w s (x ∷ cs) c = fold_one w (applied w s x) cs c
-
-pub behind_one : (b : List ℕ) (cs : List Change) (l m : LiveView) (c : Change) → m.state.index ≡ l.state.index → changing m b ≡ applied l.state.index.weights (changing l b) c
-    → IsBehind b cs l → IsBehind b (cs ++ c ∷ []) m
-unfolding IsBehind
-behind_one b cs l m c index one h =
-    ap (λ (i : IndexView). fold (applied i.weights) (started (file_corpus b)) (cs ++ c ∷ [])) index
-    ∙ fold_one l.state.index.weights (started (file_corpus b)) cs c ∙ ap (λ s. applied l.state.index.weights s c) h ∙ sym one
-
 module _ (l : LiveView) (k : IsKept l) (doc : Doc) (a : IsAccepted l.state.index.weights doc) (m : LiveView) (t : List ℕ) (n : ℕ)
     (title : t ≡ doc.title) (state : m.state ≡ with_title l.state t) (rows : m.rows ≡ l.rows ++ own_rows l doc) (met : m.met ≡ l.met + length (own_rows l doc))
-    (none_a : m.answers ≡ answer_list [] n) (none_h : m.held ≡ []) where
+    (changes : m.changes ≡ l.changes + 1) (none_a : m.answers ≡ answer_list [] n) (none_h : m.held ≡ []) where
   abbrev own : List Row
   own = own_rows l doc
 
@@ -187,12 +198,16 @@ module _ (l : LiveView) (k : IsKept l) (doc : Doc) (a : IsAccepted l.state.index
       record {
         live = subst (λ s. IsLive s m.rows m.met) (sym state) (subst (λ rs. IsLive (with_title l.state t) rs m.met) (sym rows) (record {
           state = of_state;
-          whole = live.whole;
           waiting = waiting_more l.state live.state t l.rows live.waiting doc a;
           few = omega (arith, both, old, met);
           few_rows = omega (arith, few_rows, met);
           few_words = few_words;
         }));
+        counted = (let counted = k.counted in
+        let all = ap₂ (λ a ps. a + count_by not ps) (ap (λ (s : StateView). length s.added) state ∙ length-append l.state.added (t ∷ []))
+        (ap (λ (s : StateView). s.present) state) in
+        let same = there_more l.state.present in
+        omega (arith, changes, counted, all, same));
         fresh = inr (ap (λ (x : AnswerList). x.entries) none_a, none_h);
         answers = empty_kept m.state m.answers n none_a;
         held = empty_held m.state m.held none_h;
@@ -202,12 +217,11 @@ module _ (l : LiveView) (k : IsKept l) (doc : Doc) (a : IsAccepted l.state.index
   added_corpus b stands =
       let live = k.live in
       let s = l.state in
-      let ts = (stock_now s b).titles in
+      let ts = (image_of b).titles in
       let posts = (stock_now s b).posts in
-      let long : length s.present ≡ length ts = (state_told s live.state b stands).docs in
-      let titles : by_number (stock_now m.state b).titles ≡ insert (by_number ts) (length s.present) doc.title =
-      ap (λ (x : StateView). by_number (stock_now x b).titles) state ∙ ap by_number (sym (append_assoc (stock_of b).titles s.added (t ∷ [])))
-      ∙ one_title ts t (length s.present) long ∙ ap (insert (by_number ts) (length s.present)) title in
+      let titles : (stock_now m.state b).titles ≡ insert (stock_now s b).titles (length s.present) doc.title =
+      ap (λ (x : StateView). (stock_now x b).titles) state ∙ ap (titles_now (s.present ++ true ∷ [])) (sym (append_assoc ts s.added (t ∷ [])))
+      ∙ titled_more s.present (ts ++ s.added) t (titles_long s live.state b stands) ∙ ap (insert (stock_now s b).titles (length s.present)) title in
       let all : rows_at m.state.words (stock_now m.state b).posts ++ m.rows
       ≡ members_in by_row ((rows_at s.words posts ++ l.rows) ++ doc_rows s.index.weights (length s.present, doc)) =
       ap₂ (λ (x : StateView) rs. rows_at x.words (stock_now x b).posts ++ rs) state rows
@@ -221,9 +235,68 @@ module _ (l : LiveView) (k : IsKept l) (doc : Doc) (a : IsAccepted l.state.index
   is_added capacity = record {
     index = ap (λ (s : StateView). s.index) state;
     corpus = added_corpus;
-    changes = ap (λ (s : StateView). length s.added) state ∙ length-append l.state.added (t ∷ []);
+    changes = changes;
+    added = ap (λ (s : StateView). length s.added) state ∙ length-append l.state.added (t ∷ []);
     rows = met;
     words = ap₂ words_met (ap (λ (s : StateView). s.words) state) rows;
     answers = none_a ∙ ap (answer_list []) capacity;
     held = none_h;
   }
+
+-- ---- one document less
+module _ (l : LiveView) (k : IsKept l) (d : ℕ) (s : StateView) (h : IsSettled l.state l.rows s) (m : LiveView) (n : ℕ)
+    (state : m.state ≡ without s d) (rows : m.rows ≡ []) (met : m.met ≡ l.met) (changes : m.changes ≡ l.changes + 1)
+    (none_a : m.answers ≡ answer_list [] n) (none_h : m.held ≡ []) where
+  of_without : IsState (without s d)
+  of_without = without_is s h.is d
+
+  pub removed_kept : get_or l.state.present d false ≡ true → IsKept m
+  removed_kept here =
+      let live = settled_live l k s h in
+      let few_rows = live.few_rows in
+      let there : get_or s.present d false ≡ true = ap (λ ps. get_or ps d false) h.present ∙ here in
+      record {
+        live = subst (λ x. IsLive x m.rows m.met) (sym state) (subst (λ rs. IsLive (without s d) rs m.met) (sym rows) (record {
+          state = of_without;
+          waiting = none_waiting (without s d) of_without;
+          few = omega arith;
+          few_rows = omega (arith, few_rows, met);
+          few_words = live.few_words;
+        }));
+        counted = (let counted = k.counted in
+        let all = ap₂ (λ a ps. a + count_by not ps) (ap (λ (x : StateView). length x.added) state ∙ ap length h.added) (ap (λ (x : StateView). x.present) state) in
+        let more = gone_more s.present d there in
+        let same = ap (count_by not) h.present in
+        omega (arith, changes, counted, all, more, same));
+        fresh = inl rows;
+        answers = empty_kept m.state m.answers n none_a;
+        held = empty_held m.state m.held none_h;
+      }
+
+  removed_corpus : (b : List ℕ) → StandsFor b l.state.index → changing m b ≡ applied l.state.index.weights (changing l b) (deleted d)
+  removed_corpus b stands =
+      let titles : (stock_now m.state b).titles ≡ remove (stock_now l.state b).titles d =
+      ap (λ (x : StateView). (stock_now x b).titles) state ∙ without_titles s d b ∙ ap (λ ts. remove ts d) (titles_stay l k s h b stands) in
+      let all : rows_at m.state.words (stock_now m.state b).posts ++ m.rows ≡ filter (λ r. not (in_doc d r)) (rows_at l.state.words (stock_now l.state b).posts ++ l.rows) =
+      ap₂ (λ (x : StateView) rs. rows_at x.words (stock_now x b).posts ++ rs) state rows ∙ append-nil (rows_at s.words (stock_now (without s d) b).posts)
+      ∙ without_rows s d b ∙ ap (filter (λ r. not (in_doc d r))) (h.rows b stands) in
+      let next : length m.state.present ≡ length l.state.present =
+      ap (λ (x : StateView). length x.present) state ∙ length-set s.present d false ∙ ap length h.present in
+      λ j. record { corpus = record { titles = titles j; rows = all j }; next = next j }
+
+  pub is_removed : n ≡ l.answers.capacity → IsRemoved l d m
+  is_removed capacity = record {
+    index = ap (λ (x : StateView). x.index) state ∙ h.index;
+    corpus = removed_corpus;
+    changes = changes;
+    added = ap (λ (x : StateView). x.added) state ∙ h.added;
+    rows = met;
+    words = ap₂ (λ (x : StateView) rs. words_met x.words rs) state rows ∙ ap (λ ws. words_met ws []) h.words ∙ met_twice l.state.words l.rows []
+        ∙ ap (words_met l.state.words) (append-nil l.rows);
+    answers = none_a ∙ ap (answer_list []) capacity;
+    held = none_h;
+  }
+
+-- ---- which numbers are those of documents
+pub documents_are : (l : LiveView) → IsState l.state → (d : ℕ) (b : List ℕ) → StandsFor b l.state.index → contains_key (changing l b).corpus.titles d ≡ has_document l d
+documents_are l is d b stands = titled_there l.state.present ((image_of b).titles ++ l.state.added) d (titles_long l.state is b stands)

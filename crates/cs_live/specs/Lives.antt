@@ -18,7 +18,8 @@
 --   full_of e, NamesFull l doc e      the refusal that a fault names is this one; want of memory names none
 --   AreGoodNow b l          what is kept and held is that of the corpus now
 --   IsAfterNow k q l r new  what is kept after a reply, of a corpus
---   IsSettled s rows new    a state, and rows that waited brought into it
+--   most_held               how many bytes what is held of ranges of words has at most
+--   IsSettled s waited new  a state, and rows that waited brought into it
 --   IsGoodRow w r           a row that an index file may have
 --   AreWaiting s rows       rows of added documents, behind all that a state has in memory
 --   IsLive s rows met       what always holds of a state and these rows
@@ -28,7 +29,7 @@
 --   IsAdded l doc new       what an addition leaves
 --   IsRemoved l d new       what a deletion leaves
 --   IsCounted l             each change added a number or took one away
-use Rattle.std.specs.Prelude.{◌≡◌, ◌⊎◌, ℕ, ◌+◌, ◌≤◌, ◌<◌, Bool, not, true, false, nat_le, nat_lt, List, [], ◌∷◌, ◌++◌, length, count_by, fold, map, slice_index_or, All, MatchOption}
+use Rattle.std.specs.Prelude.{◌≡◌, ◌⊎◌, ℕ, ◌+◌, ◌*◌, ◌^◌, ◌≤◌, ◌<◌, Bool, not, true, false, nat_le, nat_lt, List, [], ◌∷◌, ◌++◌, length, count_by, fold, map, slice_index_or, All, MatchOption}
 use Rattle.std.specs.Prelude.{Option, None, Some, Result}
 use Rattle.std.specs.List.Sorted.{IsStrictlySortedBy}
 use Rattle.cs_base.specs.content.Orders.{by_spot}
@@ -192,6 +193,10 @@ AreGoodNow b l = AreGoodFor (corpus_in (stock_now l.state b)) (stock_now l.state
 -- the reply and what is kept behind it are those of a corpus; nothing is said of a refusal
 abbrev pub IsAfterNow : Corpus → Query → LiveView → Result (Reply × Note) FetchFault → LiveView → Type 0
 IsAfterNow k q l r new = IsAfterFor k q (engine_with (seen (source_now new.state)) l.answers l.held) r (engine_with (seen (source_now new.state)) new.answers new.held)
+
+-- 240 MiB, as for an engine
+abbrev pub most_held : ℕ
+most_held = 240 * 2 ^ 20
 
 -- ---- rows that wait
 -- the state has the words and the rows too; of no rows nothing changes

@@ -3,14 +3,14 @@ ghost use Rattle.std.specs.Prelude.{◌≡◌, ◌≤◌, Err, [], length, IfOk}
 ghost use Rattle.std.specs.List.{All};
 ghost use Rattle.cs_base.specs.outside.Causes.{ReadsWithin};
 ghost use Rattle.cs_engine.specs.{Asking.{division, titles_asked}, HeldRanges.{FitsRange, range_bytes}, IndexReading.{OnlyReads, WhereStood}};
-ghost use Rattle.cs_engine.specs.{Sources.{seen}, Stocked.{corpus_in}, declared.held.TheConstants.{MAX_HELD_BYTES}};
+ghost use Rattle.cs_engine.specs.{Sources.{seen}, Stocked.{corpus_in}};
 ghost use Rattle.cs_engine.specs.Keeping.{AnswersRight, AreGoodFor, KeepsAnswers, KeepsFitting, engine_with, note_plan};
 ghost use Rattle.cs_file.specs.Indexes.{HasAllBlocks};
 ghost use Rattle.cs_file.specs.declared.fault.FetchFault.TheVariants as fetches;
 ghost use Rattle.cs_model.specs.Parameters.{HoldsLimits};
 ghost use Rattle.cs_model_kept.specs.Due.{due};
 ghost use Rattle.cs_query.specs.RequestView.{asked};
-ghost use Rattle.cs_live.specs.States.{source_now, stock_now};
+ghost use Rattle.cs_live.specs.{Lives.{most_held}, States.{source_now, stock_now}};
 
 use crate::source::state_is_source;
 use crate::state::State;
@@ -46,7 +46,7 @@ pub(crate) fn ask_state<S: Store>(
     ensures reads { ReadsWithin
         (due (division state.now.index) (asked request.now) (note_plan request.now.query answers.old) (titles_asked (asked request.now) result))
         (S.reads store.old) (S.reads store.new) }
-    ensures bounded { range_bytes held.new ≤ MAX_HELD_BYTES }
+    ensures bounded { range_bytes held.new ≤ most_held }
     ensures given { result ≡ Err fetches.Memory → held.new ≡ [] }
 {
     state_is_source(state);

@@ -4,7 +4,7 @@ ghost use Rattle.std.specs.FinMap as map;
 ghost use Rattle.std.specs.Option.{ForSome};
 ghost use Rattle.cs_base.specs.outside.Causes.{ReadsWithin};
 ghost use Rattle.cs_cache.specs.AnswerList.{answer_list};
-ghost use Rattle.cs_engine.specs.{Asking.{IsChangeIn, division, titles_asked}, HeldRanges.{range_bytes}, declared.held.TheConstants.{MAX_HELD_BYTES}};
+ghost use Rattle.cs_engine.specs.{Asking.{IsChangeIn, division, titles_asked}, HeldRanges.{range_bytes}};
 ghost use Rattle.cs_engine.specs.{Keeping.{KeepsAnswers, note_plan}, Sources.{seen}};
 ghost use Rattle.cs_file.specs.CallAnswers.{is_changed, is_read};
 ghost use Rattle.cs_file.specs.Indexes.{HasAllBlocks, StandsFor, CausedReads};
@@ -16,7 +16,7 @@ ghost use Rattle.cs_model_kept.specs.{Due.{due}, declared.limits.TheConstants.{M
 ghost use Rattle.cs_model_live.specs.{Courses.{IsChanged}, LiveStates.{LiveState}};
 ghost use Rattle.cs_query.specs.RequestView.{asked};
 ghost use Rattle.cs_live.specs.Lives.{AreGoodNow, IsAccepted, IsAdded, IsAfterNow, IsBehind, IsRemoved, IsStateOf, NamesFull, changes_in, changing};
-ghost use Rattle.cs_live.specs.{Lives.{full_now, has_document, next_number}, States.{source_now}};
+ghost use Rattle.cs_live.specs.{Lives.{full_now, has_document, most_held, next_number}, States.{source_now}};
 ghost use Rattle.cs_live.specs.declared.fault.RemoveFault.TheVariants as removals;
 
 use crate::adding::{Addition, addition_of, put_document, words_fit};
@@ -134,13 +134,12 @@ impl Live {
         if !words_fit(alloc, &self.state.words, &self.rows, &rows)? {
             return Err(AddFault::FullWords);
         }
-        let answers = Answers::new(alloc, self.capacity)?;
+        let none = Answers::new(alloc, self.capacity)?;
         let met = self.met + rows.len() as u32;
         put_document(&mut self.state, &mut self.rows, title, rows)?;
         self.met = met;
         self.changes += 1;
-        self.answers = answers;
-        self.held = Holder::new(alloc);
+        forget(alloc, &mut self.answers, &mut self.held, none);
         Ok(docs as u32)
     }
 
@@ -162,12 +161,11 @@ impl Live {
         if !has_document(&self.state, doc) {
             return Err(RemoveFault::Absent);
         }
-        let answers = Answers::new(alloc, self.capacity)?;
+        let none = Answers::new(alloc, self.capacity)?;
         settle(alloc, &mut self.state, &mut self.rows)?;
         self.state.remove(doc);
         self.changes += 1;
-        self.answers = answers;
-        self.held = Holder::new(alloc);
+        forget(alloc, &mut self.answers, &mut self.held, none);
         Ok(())
     }
 
@@ -207,7 +205,7 @@ impl Live {
             (S.reads store.old) (S.reads store.new) }
         ensures caused { CausedReads (is_read result) (S.faults store.old) (S.faults store.new) }
         ensures changed { IfErr result (IsChangeIn self.old.state.index (S.bytes store.old)) }
-        ensures bounded { range_bytes self.new.held ≤ MAX_HELD_BYTES }
+        ensures bounded { range_bytes self.new.held ≤ most_held }
         ensures given { result ≡ Err fetches.Memory → self.new.held ≡ [] }
     {
         settle(alloc, &mut self.state, &mut self.rows)?;
@@ -220,4 +218,13 @@ impl Live {
             &mut self.held,
         )
     }
+}
+
+// Lets all go that was kept and held of the corpus before a change.
+fn forget(alloc: Global, answers: &mut Answers, held: &mut Holder, none: Answers)
+    ensures answers { answers.new ≡ none }
+    ensures held { held.new ≡ [] }
+{
+    *answers = none;
+    *held = Holder::new(alloc);
 }

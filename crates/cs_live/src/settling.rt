@@ -38,6 +38,7 @@ pub(crate) fn settle(alloc: Global, state: &mut State, rows: &mut Vec<Row>) -> R
     ensures none { OnOk result (rows.new.items ≡ []) }
     ensures state { OnErr result (state.new ≡ state.old) }
     ensures rows { OnErr result (rows.new.items ≡ rows.old.items) }
+    ensures some { OnErr result (1 ≤ length rows.old.items) }
 {
     if rows.is_empty() {
         return Ok(());
