@@ -7,11 +7,12 @@
 --   state_told     over the bytes of its index
 --   state_source   a state is a source
 --   many_now       where no document of the index is gone it has as many posts as the index, or more
-use Rattle.std.proofs.Common.{◌≡◌, ℕ, ◌+◌, ◌-◌, ◌<◌, ◌≤◌, ◌==◌, ◌&&◌, ◌||◌, Bool, true, false, List, [], ◌∷◌, ◌++◌, length, take, drop, map, replicate}
+use Rattle.std.proofs.Common.{◌≡◌, ℕ, ◌+◌, ◌-◌, ◌<◌, ◌≤◌, ◌==◌, ◌&&◌, ◌||◌, Bool, true, false, List, [], ◌∷◌, ◌++◌, length, get_or, take, drop, map, replicate}
 use Rattle.std.proofs.Common.{refl, sym, ap, subst, ◌∙◌, arith, append-nil}
 use Rattle.std.specs.Prelude.{All, filter, flat_map, nat_le, nat_lt}
 use Rattle.std.specs.FinMap.{contains_key}
 use Rattle.std.specs.List.{AllByRecursion, list_any}
+use Rattle.std.specs.Str.{bytes_eq}
 use Rattle.std.proofs.Math.Bool.{and_comm}
 use Rattle.std.proofs.lemmas.Bool.Decides.{nat_tests}
 use Rattle.std.proofs.lemmas.List.{get_or-replicate, length-append, length-map}
@@ -26,8 +27,10 @@ use Rattle.cs_base.proofs.MembersLemmas.{all_then}
 use Rattle.cs_file.specs.Indexes.{AreMet, StandsFor}
 use Rattle.cs_file.proofs.PostsLemmas.{posts_between, posts_known}
 use Rattle.cs_file.proofs.StoodLemmas.{stood_count}
+use Rattle.cs_model.specs.Answers.{begins}
 use Rattle.cs_model_index.specs.Images.{image_posts}
 use Rattle.cs_model_index.specs.Sections.{image_of}
+use Rattle.cs_model_kept.specs.Sharp.{lies_in}
 use Rattle.cs_tables.specs.TableListings.{with_word}
 use Rattle.cs_tables.specs.WordCounts.{AreCountable, is_chosen}
 use Rattle.cs_engine.specs.Blockwise.{AreMany}
@@ -37,13 +40,15 @@ use Rattle.cs_engine.specs.Sources.{IsIn, IsSource, IsTold, is_there, all_rows}
 use Rattle.cs_engine.specs.Sources as sources
 use Rattle.cs_engine.specs.Stocked.{IsKnown, IsStocked, is_between}
 use Rattle.cs_engine.proofs.AlikeLemmas.{any_filter}
+use Rattle.cs_engine.proofs.AskedWords.{met_holds}
+use Rattle.cs_engine.proofs.BoundedBlocks.{blocks_bounded}
 use Rattle.cs_engine.proofs.CountingLemmas.{countable, stock_within}
 use Rattle.cs_engine.proofs.FoundLemmas.{stays}
 use Rattle.cs_engine.proofs.OpenedLemmas.{opened_told}
 use Rattle.cs_engine.proofs.StockLemmas.{docs_are, score_fits, stocked}
 use Rattle.cs_live.specs.States.{IsState, StateView, now_posts, rank, renumbered, source_now, stock_now, titles_now}
-use Rattle.cs_live.proofs.NumberLemmas.{known_word, old_met_prefix, old_met_word, rank_step}
-use Rattle.cs_live.proofs.NowLemmas.{all_now, between_now, chosen_now, dropped_parts, drop_map, flat_parts, flat_same, flat_through, now_flat, now_pieces, now_rises, sorted_behind}
+use Rattle.cs_live.proofs.NumberLemmas.{known_word, old_met_prefix, old_met_word, old_range, old_span, rank_step}
+use Rattle.cs_live.proofs.NowLemmas.{all_now, between_now, block_now, chosen_now, dropped_parts, drop_map, flat_parts, flat_same, flat_through, now_flat, now_pieces, now_rises, sorted_behind}
 use Rattle.cs_live.proofs.NowLemmas.{take_map, taken_parts}
 use Rattle.cs_live.proofs.TitleLemmas.{titled_docs, titled_there}
 
@@ -293,6 +298,8 @@ module _ (s : StateView) (is : IsState s) where
       docs = sym (titled_docs s.present titles titles_long);
       words = refl;
       count = length-map (image_of b).blocks N ∙ stood_count b s.index stands;
+      lie = λ k h lt.
+          block_now s.shift s.present (λ d. lies_in (get_or s.index.heads k h) d ≡ true) (image_of b).blocks k (blocks_bounded b s.index stands k h lt);
       alike = now_any;
       long = now_long;
       run = run_now;
@@ -310,6 +317,12 @@ module _ (s : StateView) (is : IsState s) where
     held = is.held;
     prefix_met = λ p lo hi range. old_met_prefix s.index s.words s.shift is.shift is.index p lo hi range;
     word_met = λ w lo hi span short none. old_met_word s.index s.words s.shift is.shift is.index w lo hi span short;
+    prefix_held = λ p lo hi range.
+        let old = old_range s.index s.words s.shift is.shift p lo hi range in
+        met_holds s.index is.index (begins p) (rank s.shift lo) (rank s.shift hi) old.holds old.within;
+    word_held = λ w lo hi span.
+        let old = old_span s.index s.words s.shift is.shift (λ x. bytes_eq x w) lo hi span in
+        met_holds s.index is.index (λ x. bytes_eq x w) (rank s.shift lo) (rank s.shift hi) old.holds old.within;
     told = state_told;
   }
 

@@ -1,13 +1,13 @@
 //! An opened index under changes, as a source.
-ghost use Rattle.std.specs.Prelude.{◌≡◌, true};
-ghost use Rattle.cs_engine.specs.{Blockwise.{AreMany}, IndexReading.{IsWordRange}, Sources.{IsSource, seen, source_of as opened_source}};
+ghost use Rattle.std.specs.Prelude.{◌≡◌, ◌<◌, true, length, slice_index_or};
+ghost use Rattle.cs_engine.specs.{Blockwise.{AreMany}, IndexReading.{IsWordRange}, Skipping.{no_head}, Sources.{IsSource, seen, source_of as opened_source}};
 ghost use Rattle.cs_live.specs.States.{source_now};
 
 use crate::numbers::{old_words, own_span};
 use crate::rows::{fetch_now, fetch_scored_now};
 use crate::state::State;
 use crate::titles::title_now;
-use cs_base::{Memory, Post, Store, Text, Weights};
+use cs_base::{BlockHead, Memory, Post, Store, Text, Weights};
 use cs_engine::Source;
 use cs_file::{FetchFault, Fetched, Index, Sought};
 use std::alloc::Global;
@@ -53,6 +53,10 @@ impl Source for State {
     fn blocks(&self, words: (u32, u32)) -> (u32, u32) {
         let (lo, hi) = old_words(&self.shift, words);
         self.index.blocks(lo, hi)
+    }
+
+    fn head(&self, k: u32) -> &BlockHead {
+        head_of(&self.index, k)
     }
 
     fn are_many(&self, words: (u32, u32)) -> bool {
@@ -117,6 +121,14 @@ fn weights_of(index: &Index) -> Weights
     ensures { result ≡ index.now.weights }
 {
     index.weights
+}
+
+fn head_of(index: &Index, k: u32) -> &BlockHead
+    requires { k < length index.now.heads }
+
+    ensures { result.now ≡ slice_index_or index.now.heads k no_head }
+{
+    index.head(k)
 }
 
 // Whether the index has more rows of these of its words than an entry may have, as far as can be told without reading them.
