@@ -167,7 +167,8 @@ module _ (l : LiveView) (k : IsKept l) (new : StateView) (h : IsSettled l.state 
     pub settled_corpus : (changing l b).corpus ≡ corpus_in (stock_now new b)
     settled_corpus =
         let rows = h.rows b stands in
-        λ j. record { titles = titles_stay (~ j); rows = rows (~ j) }
+        let same : corpus_in (stock_now new b) ≡ (changing l b).corpus = λ j. record { titles = titles_stay j; rows = rows j } in
+        sym same
 
     pub settled_same : (m : LiveView) → m.state ≡ new → m.rows ≡ [] → changing l b ≡ changing m b
     settled_same m state none =

@@ -7,10 +7,10 @@
 
 mod adding;
 mod asking;
+mod facts;
 mod fault;
 mod live;
 mod numbers;
-mod removing;
 mod rows;
 mod settling;
 mod source;

@@ -19,10 +19,10 @@ ghost use Rattle.cs_live.specs.Lives.{AreGoodNow, IsAccepted, IsAdded, IsAfterNo
 ghost use Rattle.cs_live.specs.{Lives.{full_now, has_document, most_held, next_number}, States.{source_now}};
 ghost use Rattle.cs_live.specs.declared.fault.RemoveFault.TheVariants as removals;
 
-use crate::adding::{Addition, addition_of, put_document, words_fit};
+use crate::adding::{Addition, addition_of, put_document};
 use crate::asking::ask_state;
+use crate::facts::{has_document, has_room, next_number, weights_of};
 use crate::fault::{AddFault, RemoveFault};
-use crate::removing::has_document;
 use crate::settling::settle;
 use crate::state::{State, rows_of_index};
 use cs_base::{Doc, MAX_DOCS, MAX_ROWS, Memory, Row, Store, Weights};
@@ -104,7 +104,7 @@ impl Live {
     pub fn weights(&self) -> Weights
         ensures { result ≡ self.now.state.index.weights }
     {
-        self.state.index.weights
+        weights_of(&self.state)
     }
 
     /// Adds a document that is read of a collection, and gives its number, which no document has had. What was kept and held goes.
@@ -122,16 +122,16 @@ impl Live {
         ensures err { IfErr result (NamesFull self.old doc) }
         ensures kept { OnErr result (self.new ≡ self.old) }
     {
-        let docs = self.state.present.len();
-        if docs >= MAX_DOCS {
+        let number = next_number(&self.state);
+        if number as usize >= MAX_DOCS {
             return Err(AddFault::FullDocs);
         }
-        let Addition { title, rows } =
-            addition_of(alloc, doc, self.state.index.weights, docs as u32)?;
+        let weights = weights_of(&self.state);
+        let Addition { title, rows } = addition_of(alloc, doc, weights, number)?;
         if rows.len() > MAX_ROWS - self.met as usize {
             return Err(AddFault::FullRows);
         }
-        if !words_fit(alloc, &self.state.words, &self.rows, &rows)? {
+        if !has_room(alloc, &self.state, &self.rows, &rows)? {
             return Err(AddFault::FullWords);
         }
         let none = Answers::new(alloc, self.capacity)?;
@@ -140,7 +140,7 @@ impl Live {
         self.met = met;
         self.changes += 1;
         forget(alloc, &mut self.answers, &mut self.held, none);
-        Ok(docs as u32)
+        Ok(number)
     }
 
     /// Deletes the document of a number, which comes to no other one. What was kept and held goes.

@@ -1,6 +1,7 @@
-use Rattle.std.proofs.Common.{◌≡◌, ◌∙◌, ◌≤◌, List, [], ◌∷◌, true, ap, get_or, length, map, subst, sym, arith}
+use Rattle.std.proofs.Common.{◌≡◌, ◌∙◌, ◌≤◌, List, [], ◌∷◌, ◌++◌, true, ap, drop, get_or, length, map, subst, sym, take, arith}
 use Rattle.std.specs.Prelude.{All}
 use Rattle.std.specs.Str.{is_utf8}
+use Rattle.std.proofs.Math.Seq.{take-append_seam}
 use Rattle.std.proofs.lemmas.List.{length-map}
 use Rattle.std.proofs.lemmas.List.Elements.{All-from_recursion}
 use Rattle.cs_base.specs.declared.content.doc.Doc.{Doc}
@@ -31,9 +32,16 @@ returns-clause-ok c =
     let same = length-map (rows_of w (doc ∷ [])) (later_row n) in
     let few = c.in-Ok.ensures.few in
     let read = ap (λ ds. length (rows_of w ds)) docs_are in
+    let before = ap length rows_are in
+    let own = c.put_number.new.rows in
+    let many = c.into_vec-rows.result.ok.0 in
+    let rest = drop (length own) c.into_vec-rows.result.items in
+    let ends : c.into_vec-rows.result.len ≡ length own = omega (arith, long, same, before, many, ap length c.deref_mut.ensures.value) in
+    let whole : take c.into_vec-rows.result.len (own ++ rest) ≡ own = ap (λ m. take m (own ++ rest)) ends ∙ take-append_seam own rest in
+    let whole_long = ap length whole in
     record {
       title = title;
       text = subst (λ t. is_utf8 t ≡ true) (sym title) (own_text w n doc c.requires);
-      rows = all;
-      few = omega (arith, long, same, few, read);
+      rows = whole ∙ all;
+      few = omega (arith, long, same, few, read, whole_long);
     }
