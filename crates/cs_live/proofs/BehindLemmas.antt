@@ -9,7 +9,7 @@ use Rattle.std.specs.Prelude.{All, filter, flat_map, fold, nat_le, nat_lt, Optio
 use Rattle.std.specs.List.{AllByRecursion, enumerate_from, sum_by}
 use Rattle.std.specs.Cmp.Lexicographic.{slice_cmp}
 use Rattle.std.specs.Ordering.{nat_cmp}
-use Rattle.std.specs.FinMap.{len, len-entries}
+use Rattle.std.specs.FinMap.{contains_key, len, len-entries}
 use Rattle.std.proofs.lemmas.Cmp.{nat_list_cmp_total}
 use Rattle.std.proofs.lemmas.List.{length-map}
 use Rattle.std.proofs.lemmas.List.Concat.{length-flat_map}
@@ -51,6 +51,8 @@ use Rattle.cs_live.proofs.BeginningLemmas.{opened_corpus}
 use Rattle.cs_live.proofs.MetRows.{AreBelow, distinct_more, met_more, met_none}
 use Rattle.cs_live.proofs.OwnRows.{all_map, numbered_rows}
 use Rattle.cs_live.proofs.SettledLemmas.{met_twice}
+use Rattle.cs_live.proofs.StateLemmas.{titles_long}
+use Rattle.cs_live.proofs.TitleLemmas.{titled_there}
 
 -- ---- lists
 long_numbered : {X : Type 0} (a : ℕ) (xs : List X) → length (enumerate_from a xs) ≡ length xs
@@ -228,6 +230,9 @@ module _ (l : LiveView) (is : IsState l.state) (b : List ℕ) (stands : StandsFo
         corpus = c.corpus ∙ ap (λ (x : Changing). x.corpus) h.corpus;
         changes = c.changes ∙ sym h.changes;
         next = docs;
+        documents = λ d.
+            ap (λ (k : Corpus). contains_key k.titles d) (c.corpus ∙ ap (λ (x : Changing). x.corpus) h.corpus)
+            ∙ titled_there l.state.present ((image_of b).titles ++ l.state.added) d (titles_long l.state is b stands);
         full = λ doc.
             let rows = ap (λ ds. length (met_by l b (ds ++ doc ∷ []))) c.additions ∙ rows_counted doc in
             let vs = ap (λ ds. length (distinct_words (met_by l b (ds ++ doc ∷ [])))) c.additions ∙ ap length (words_counted doc) in

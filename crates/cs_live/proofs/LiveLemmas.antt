@@ -4,12 +4,11 @@
 --   settled_*         rows that waited brought in: what is kept and held stays right
 --   added_*           a document that is added
 --   removed_*         a document that is deleted
---   documents_are     which numbers are those of documents
 use Rattle.std.proofs.Common.{◌≡◌, ℕ, zero, suc, ◌+◌, ◌-◌, ◌<◌, ◌≤◌, Bool, true, false, true≢false, cond, not, List, [], ◌∷◌, ◌++◌, length, get_or, set, map, replicate}
 use Rattle.std.proofs.Common.{refl, sym, ap, ap₂, subst, ◌∙◌, arith, append-nil, append_assoc, length-append, inl, inr}
 use Rattle.std.specs.Prelude.{All, count_by, filter, fold}
 use Rattle.std.specs.List.{IsDistinct, sum_by}
-use Rattle.std.specs.FinMap.{contains_key, insert, remove}
+use Rattle.std.specs.FinMap.{insert, remove}
 use Rattle.std.specs.Ordering.{nat_cmp}
 use Rattle.std.specs.Cmp.Lexicographic.{slice_cmp}
 use Rattle.std.specs.Str.{is_utf8}
@@ -41,14 +40,14 @@ use Rattle.cs_model_changes.specs.Joined.{later_row}
 use Rattle.cs_model_index.specs.Numbered.{rows_at}
 use Rattle.cs_model_index.specs.Sections.{file_corpus, image_of}
 use Rattle.cs_model_index.proofs.Listings.{listed_few}
-use Rattle.cs_live.specs.Lives.{AreGoodNow, AreWaiting, IsAccepted, IsAdded, IsBehind, IsFresh, IsKept, IsLive, IsRemoved, IsSettled, LiveView, changing, has_document, next_number, own_rows}
+use Rattle.cs_live.specs.Lives.{AreGoodNow, AreWaiting, IsAccepted, IsAdded, IsBehind, IsFresh, IsKept, IsLive, IsRemoved, IsSettled, LiveView, changing, next_number, own_rows}
 use Rattle.cs_live.specs.Settling.{words_met}
 use Rattle.cs_live.specs.States.{IsState, StateView, opened_state, source_now, stock_now, titles_now, with_title, without}
 use Rattle.cs_live.proofs.AddingLemmas.{rows_more, titled_is, titled_posts, waiting_more}
 use Rattle.cs_live.proofs.RemovedLemmas.{without_is, without_rows, without_titles}
 use Rattle.cs_live.proofs.SettledLemmas.{met_twice}
 use Rattle.cs_live.proofs.StateLemmas.{titles_long}
-use Rattle.cs_live.proofs.TitleLemmas.{titled_more, titled_there}
+use Rattle.cs_live.proofs.TitleLemmas.{titled_more}
 use Rattle.cs_live.proofs.BeginningLemmas.{none_waiting, opened_is}
 
 -- ---- words
@@ -297,7 +296,3 @@ module _ (l : LiveView) (k : IsKept l) (d : ℕ) (s : StateView) (h : IsSettled 
     answers = none_a ∙ ap (answer_list []) capacity;
     held = none_h;
   }
-
--- ---- which numbers are those of documents
-pub documents_are : (l : LiveView) → IsState l.state → (d : ℕ) (b : List ℕ) → StandsFor b l.state.index → contains_key (changing l b).corpus.titles d ≡ has_document l d
-documents_are l is d b stands = titled_there l.state.present ((image_of b).titles ++ l.state.added) d (titles_long l.state is b stands)

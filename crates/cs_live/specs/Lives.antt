@@ -31,6 +31,7 @@
 --   IsCounted l             each change added a number or took one away
 use Rattle.std.specs.Prelude.{◌≡◌, ◌⊎◌, ℕ, ◌+◌, ◌*◌, ◌^◌, ◌≤◌, ◌<◌, Bool, not, true, false, nat_le, nat_lt, List, [], ◌∷◌, ◌++◌, length, count_by, fold, map, slice_index_or, All, MatchOption}
 use Rattle.std.specs.Prelude.{Option, None, Some, Result}
+use Rattle.std.specs.FinMap as map
 use Rattle.std.specs.List.Sorted.{IsStrictlySortedBy}
 use Rattle.cs_base.specs.content.Orders.{by_spot}
 use Rattle.cs_base.specs.declared.content.doc.Doc.{Doc}
@@ -130,11 +131,12 @@ full_now l doc = first_reason (
     ∷ unless (nat_le (length (words_met l.state.words (l.rows ++ own_rows l doc))) MAX_WORDS) full_words
     ∷ [])
 
--- a document has room in both or in neither, and is refused for the same cause
+-- the same numbers are those of documents, and a document has room in both or in neither, and is refused for the same cause
 pub record IsStateOf (b : List ℕ) (l : LiveView) (s : LiveState) : Type 0 where
   pub corpus : s.corpus ≡ (changing l b).corpus
   pub changes : s.changes ≡ l.changes
   pub next : next_doc (file_corpus b) s ≡ next_number l
+  pub documents : (d : ℕ) → map.contains_key s.corpus.titles d ≡ has_document l d
   pub full : (doc : Doc) → full_refusal l.state.index.weights (file_corpus b) s doc ≡ full_now l doc
 
 -- of want of memory None

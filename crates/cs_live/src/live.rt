@@ -1,6 +1,5 @@
 //! An index under changes, which answers requests.
 ghost use Rattle.std.specs.Prelude.{◌≡◌, ◌↔◌, ℕ, ◌+◌, ◌≤◌, ◌++◌, ◌∷◌, [], Err, None, List, length, false, true, IfErr, IfOk, OnErr, OnOk};
-ghost use Rattle.std.specs.FinMap as map;
 ghost use Rattle.std.specs.Option.{ForSome};
 ghost use Rattle.cs_base.specs.outside.Causes.{ReadsWithin};
 ghost use Rattle.cs_cache.specs.AnswerList.{answer_list};
@@ -15,7 +14,7 @@ ghost use Rattle.cs_model_index.specs.Sections.{file_corpus};
 ghost use Rattle.cs_model_kept.specs.{Due.{due}, declared.limits.TheConstants.{MAX_ENTRIES}};
 ghost use Rattle.cs_model_live.specs.{Courses.{IsChanged}, LiveStates.{LiveState}};
 ghost use Rattle.cs_query.specs.RequestView.{asked};
-ghost use Rattle.cs_live.specs.Lives.{AreGoodNow, IsAccepted, IsAdded, IsAfterNow, IsBehind, IsRemoved, IsStateOf, NamesFull, changes_in, changing};
+ghost use Rattle.cs_live.specs.Lives.{AreGoodNow, IsAccepted, IsAdded, IsAfterNow, IsBehind, IsRemoved, IsStateOf, NamesFull, changes_in};
 ghost use Rattle.cs_live.specs.{Lives.{full_now, has_document, most_held, next_number}, States.{source_now}};
 ghost use Rattle.cs_live.specs.declared.fault.RemoveFault.TheVariants as removals;
 
@@ -93,7 +92,7 @@ impl Live {
     pub fn changes(&self) -> u32
         ensures changes { result ≡ changes_in self.now }
 
-        // After changes of the corpus that the bytes stand for, this is the live corpus behind them.
+        // After changes of the corpus of bytes that stand for the index, it is the live corpus behind them.
         ensures state { (b : List ℕ) (cs : List Change) (s : LiveState) → StandsFor b self.now.state.index → IsBehind b cs self.now
             → IsChanged self.now.state.index.weights (file_corpus b) cs s → IsStateOf b self.now s }
     {
@@ -153,10 +152,6 @@ impl Live {
         ensures good { OnOk result ((b : List ℕ) → AreGoodNow b self.new) }
         ensures absent { (result ≡ Err removals.Absent) ↔ (has_document self.old doc ≡ false) }
         ensures kept { OnErr result (self.new ≡ self.old) }
-
-        // Over bytes that stand for the index, the documents are those of the corpus as it is now.
-        ensures documents { (b : List ℕ) → StandsFor b self.old.state.index
-            → map.contains_key (changing self.old b).corpus.titles doc ≡ has_document self.old doc }
     {
         if !has_document(&self.state, doc) {
             return Err(RemoveFault::Absent);
