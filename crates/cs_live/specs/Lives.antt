@@ -25,7 +25,7 @@
 --   IsLive s rows met       what always holds of a state and these rows
 --   IsAddition w n doc a, HasTooManyRows w doc e     what is added of a document, and why its rows can't be
 --   IsFresh rows a held     nothing is kept and held while rows wait
---   IsKept l, IsRoom a n    what always holds of an index under changes
+--   IsKept l                what always holds of an index under changes
 --   IsAdded l doc new       what an addition leaves
 --   IsRemoved l d new       what a deletion leaves
 --   IsCounted l             each change added a number or took one away
@@ -63,7 +63,6 @@ use Rattle.cs_model_live.specs.Courses.{additions_in}
 use Rattle.cs_model_live.specs.LiveStates.{Full, LiveState, full_docs, full_refusal, full_rows, full_words, met_rows, next_doc}
 use Rattle.cs_live.specs.Settling.{words_met}
 use Rattle.cs_live.specs.States.{IsState, StateView, source_now, stock_now}
-use Rattle.cs_model_kept.specs.declared.limits.TheConstants.{MAX_ENTRIES}
 use Rattle.std.specs.Str.{is_utf8}
 use Rattle.cs_live.specs.declared.adding.Addition.{Addition}
 use Rattle.cs_live.specs.declared.fault.AddFault.{AddFault}
@@ -253,9 +252,3 @@ pub record IsKept (l : LiveView) : Type 0 where
   pub fresh : IsFresh l.rows l.answers l.held
   pub answers : KeepsFitting (seen (source_now l.state)) l.answers.entries
   pub held : All (FitsRange (seen (source_now l.state))) l.held
-
--- as many answers as there is room for
-pub record IsRoom (a : AnswerList) (n : ℕ) : Type 0 where
-  pub is : a.capacity ≡ n
-  pub some : 1 ≤ n
-  pub limit : n ≤ MAX_ENTRIES

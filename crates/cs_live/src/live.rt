@@ -46,19 +46,16 @@ pub struct Live {
     changes: u32,
     answers: Answers,
     held: Holder,
-    // How many answers may be kept.
-    capacity: usize,
 }
 
 impl Model for Live {
-    ghost use Rattle.cs_live.specs.Lives.{IsKept, IsRoom, LiveView};
+    ghost use Rattle.cs_live.specs.Lives.{IsKept, LiveView};
 
     ghost Value = { LiveView };
 
     ghost view = { λ l. record { state = l.state; rows = l.rows.items; met = l.met; changes = l.changes; answers = l.answers; held = l.held } };
 
-    ghost invariant = { λ l. IsKept (record { state = l.state; rows = l.rows.items; met = l.met; changes = l.changes; answers = l.answers; held = l.held })
-        × IsRoom l.answers l.capacity };
+    ghost invariant = { λ l. IsKept (record { state = l.state; rows = l.rows.items; met = l.met; changes = l.changes; answers = l.answers; held = l.held }) };
 }
 
 impl Live {
@@ -84,7 +81,6 @@ impl Live {
             changes: 0,
             answers,
             held: Holder::new(alloc),
-            capacity,
         })
     }
 
@@ -133,12 +129,11 @@ impl Live {
         if !has_room(alloc, &self.state, &self.rows, &rows)? {
             return Err(AddFault::FullWords);
         }
-        let none = Answers::new(alloc, self.capacity)?;
         let met = self.met + rows.len() as u32;
         put_document(&mut self.state, &mut self.rows, title, rows)?;
         self.met = met;
         self.changes += 1;
-        forget(alloc, &mut self.answers, &mut self.held, none);
+        forget(alloc, &mut self.answers, &mut self.held);
         Ok(number)
     }
 
@@ -156,11 +151,10 @@ impl Live {
         if !has_document(&self.state, doc) {
             return Err(RemoveFault::Absent);
         }
-        let none = Answers::new(alloc, self.capacity)?;
         settle(alloc, &mut self.state, &mut self.rows)?;
         self.state.remove(doc);
         self.changes += 1;
-        forget(alloc, &mut self.answers, &mut self.held, none);
+        forget(alloc, &mut self.answers, &mut self.held);
         Ok(())
     }
 
@@ -216,10 +210,10 @@ impl Live {
 }
 
 // Lets all go that was kept and held of the corpus before a change.
-fn forget(alloc: Global, answers: &mut Answers, held: &mut Holder, none: Answers)
-    ensures answers { answers.new ≡ none }
+fn forget(alloc: Global, answers: &mut Answers, held: &mut Holder)
+    ensures answers { answers.new ≡ answer_list [] answers.old.capacity }
     ensures held { held.new ≡ [] }
 {
-    *answers = none;
+    answers.clear();
     *held = Holder::new(alloc);
 }

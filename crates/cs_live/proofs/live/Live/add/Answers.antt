@@ -16,7 +16,7 @@ use Rattle.cs_live.proofs.live.Live.add.Goals as goal
 
 pub has_room-requires-clause-row_sized : goal.has_room-requires-clause-row_sized
 has_room-requires-clause-row_sized c =
-    subst (λ rs. HaveWordSize rs) (sym c.deref.ensures.value) (good_size c.self.inside.state.index.weights c.self.inside.rows.items c.self.invariant.0.live.waiting.good)
+    subst (λ rs. HaveWordSize rs) (sym c.deref.ensures.value) (good_size c.self.inside.state.index.weights c.self.inside.rows.items c.self.invariant.live.waiting.good)
 
 pub has_room-requires-clause-own_sized : goal.has_room-requires-clause-own_sized
 has_room-requires-clause-own_sized c =
@@ -29,7 +29,7 @@ has_room-requires-clause-own_sized c =
 
 pub overflow_add-self : goal.overflow_add-self
 overflow_add-self c =
-    let kept = c.self.invariant.0 in
+    let kept = c.self.invariant in
     let counted = kept.counted in
     let few = kept.live.state.few_docs in
     let count = kept.live.state.count in
@@ -77,13 +77,12 @@ words_fit c =
     (sym (c.in_ok-has_room.ensures ∙ ap₂ (λ xs ys. nat_le (length (words_met (before c).state.words (xs ++ ys))) MAX_WORDS) c.deref.ensures.value (c.deref-2.ensures.value ∙ own_is c))
     ∙ c.if-not-branch.false)
 
-none : (c : goal.After-forget) → c.forget.new.answers ≡ answer_list [] c.self.inside.capacity
-none c = c.forget.ensures.answers ∙ c.in_ok-none.ensures.ok
+none : (c : goal.After-forget) → c.forget.new.answers ≡ answer_list [] c.self.inside.answers.capacity
+none c = c.forget.ensures.answers
 
 pub invariant_of-self-2 : goal.invariant_of-self-2
 invariant_of-self-2 c =
-    let kept = c.self.invariant.0 in
-    let room = c.self.invariant.1 in
+    let kept = c.self.invariant in
     let l = before c in
     let own = own_long c in
     let few = c.if-number-ge-MAX_DOCS.false in
@@ -92,22 +91,19 @@ invariant_of-self-2 c =
     let few_rows = kept.live.few_rows in
     let long = c.len-2.ensures in
     let same = c.len.ensures in
-    (
-      added_kept l kept c.args.doc (accepted c) (after c) c.in_ok-title.field-0.title c.self.inside.capacity c.in_ok-title.ensures.ok.title c.in_ok-put_document.ensures.state (rows_are c)
+    added_kept l kept c.args.doc (accepted c) (after c) c.in_ok-title.field-0.title c.self.inside.answers.capacity c.in_ok-title.ensures.ok.title c.in_ok-put_document.ensures.state (rows_are c)
       (ap (λ n. c.self.inside.met + n) own) refl (none c) c.forget.ensures.held
-      (omega (arith, few, number)) c.in_ok-title.ensures.ok.text (omega (arith, rows, few_rows, own, long, same)) (words_fit c),
-      record { is = ap (λ (a : AnswerList). a.capacity) (none c); some = room.some; limit = room.limit },
-    )
+      (omega (arith, few, number)) c.in_ok-title.ensures.ok.text (omega (arith, rows, few_rows, own, long, same)) (words_fit c)
 
 added_here : (c : goal.After-forget) → IsAdded (before c) c.args.doc (after c)
 added_here c =
-    is_added (before c) c.self.invariant.0 c.args.doc (accepted c) (after c) c.in_ok-title.field-0.title c.self.inside.capacity c.in_ok-title.ensures.ok.title c.in_ok-put_document.ensures.state
-    (rows_are c) (ap (λ n. c.self.inside.met + n) (own_long c)) refl (none c) c.forget.ensures.held (sym c.self.invariant.1.is)
+    is_added (before c) c.self.invariant c.args.doc (accepted c) (after c) c.in_ok-title.field-0.title c.self.inside.answers.capacity c.in_ok-title.ensures.ok.title c.in_ok-put_document.ensures.state
+    (rows_are c) (ap (λ n. c.self.inside.met + n) (own_long c)) refl (none c) c.forget.ensures.held refl
 
 pub returns-clause-added : goal.returns-clause-added
 returns-clause-added c = subst (λ v. IsAdded v c.args.doc (after c)) c.self.view_is (added_here c)
 
 pub returns-clause-behind : goal.returns-clause-behind
 returns-clause-behind c b cs stands behind =
-    let kept : IsKept c.args.self.now = subst IsKept c.self.view_is c.self.invariant.0 in
+    let kept : IsKept c.args.self.now = subst IsKept c.self.view_is c.self.invariant in
     behind_added c.args.self.now kept.live.state b stands cs behind c.args.doc (after c) (subst (λ v. IsAdded v c.args.doc (after c)) c.self.view_is (added_here c))

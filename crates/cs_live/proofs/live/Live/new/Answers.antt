@@ -10,11 +10,8 @@ pub invariant_of-result : goal.invariant_of-result
 invariant_of-result c =
     let l : LiveView = record { state = c.in_ok-state.state; rows = c.new-2.result.items; met = c.rows_of_index-met.result; changes = 0; answers = c.in_ok-answers.answers; held = c.new-3.result } in
     let none = c.in_ok-answers.ensures.ok in
-    (
-      kept_begins c.args.index (subst IsIndex c.index.view_is c.index.invariant.index) l c.args.capacity c.in_ok-state.ensures c.new-2.ensures.items c.rows_of_index-met.ensures.rows refl none
-      c.new-3.ensures,
-      record { is = ap (λ (a : AnswerList). a.capacity) none; some = c.requires.some; limit = c.requires.limit },
-    )
+    kept_begins c.args.index (subst IsIndex c.index.view_is c.index.invariant.index) l c.args.capacity c.in_ok-state.ensures c.new-2.ensures.items c.rows_of_index-met.ensures.rows refl none
+    c.new-3.ensures
 
 pub returns-clause-begins : goal.returns-clause-begins
 returns-clause-begins c b stands =

@@ -19,30 +19,26 @@ after c = record {
   held = c.forget.new.held;
 }
 
-none : (c : goal.After-forget) → c.forget.new.answers ≡ answer_list [] c.self.inside.capacity
-none c = c.forget.ensures.answers ∙ c.in_ok-none.ensures.ok
+none : (c : goal.After-forget) → c.forget.new.answers ≡ answer_list [] c.self.inside.answers.capacity
+none c = c.forget.ensures.answers
 
 removed_here : (c : goal.After-forget) → IsRemoved (before c) c.args.doc (after c)
 removed_here c =
-    is_removed (before c) c.self.invariant.0 c.args.doc c.settle.new.state c.in_ok-settle.ensures.ok (after c) c.self.inside.capacity c.remove.ensures c.in_ok-settle.ensures.none refl refl (none c)
-    c.forget.ensures.held (sym c.self.invariant.1.is)
+    is_removed (before c) c.self.invariant c.args.doc c.settle.new.state c.in_ok-settle.ensures.ok (after c) c.self.inside.answers.capacity c.remove.ensures c.in_ok-settle.ensures.none refl refl (none c)
+    c.forget.ensures.held refl
 
 pub invariant_of-self-2 : goal.invariant_of-self-2
 invariant_of-self-2 c =
-    let room = c.self.invariant.1 in
-    (
-      removed_kept (before c) c.self.invariant.0 c.args.doc c.settle.new.state c.in_ok-settle.ensures.ok (after c) c.self.inside.capacity c.remove.ensures c.in_ok-settle.ensures.none refl refl (none c)
-      c.forget.ensures.held (sym c.has_document.ensures ∙ c.if-not-has_document.false),
-      record { is = ap (λ (a : AnswerList). a.capacity) (none c); some = room.some; limit = room.limit },
-    )
+    removed_kept (before c) c.self.invariant c.args.doc c.settle.new.state c.in_ok-settle.ensures.ok (after c) c.self.inside.answers.capacity c.remove.ensures c.in_ok-settle.ensures.none refl refl (none c)
+      c.forget.ensures.held (sym c.has_document.ensures ∙ c.if-not-has_document.false)
 
 pub returns-clause-removed : goal.returns-clause-removed
 returns-clause-removed c = subst (λ v. IsRemoved v c.args.doc (after c)) c.self.view_is (removed_here c)
 
 pub returns-clause-behind : goal.returns-clause-behind
 returns-clause-behind c b cs stands behind =
-    let kept : IsKept c.args.self.now = subst IsKept c.self.view_is c.self.invariant.0 in
+    let kept : IsKept c.args.self.now = subst IsKept c.self.view_is c.self.invariant in
     behind_removed c.args.self.now kept.live.state b stands cs behind c.args.doc (after c) (subst (λ v. IsRemoved v c.args.doc (after c)) c.self.view_is (removed_here c))
 
 pub returns-clause-good : goal.returns-clause-good
-returns-clause-good c b = empty_good (after c) c.self.inside.capacity (none c) c.forget.ensures.held b
+returns-clause-good c b = empty_good (after c) c.self.inside.answers.capacity (none c) c.forget.ensures.held b
