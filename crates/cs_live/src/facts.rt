@@ -1,6 +1,7 @@
 //! What a change asks of a state.
 ghost use Rattle.std.specs.Prelude.{◌≡◌, ◌≤◌, ◌++◌, false, length, nat_le, slice_index_or, IfOk};
 ghost use Rattle.cs_base.specs.declared.content.limits.TheConstants.{MAX_DOCS, MAX_ROWS, MAX_WORDS};
+ghost use Rattle.cs_model.specs.Weights.{AreWeights};
 ghost use Rattle.cs_live.specs.Settling.{HaveWordSize, words_met};
 
 use crate::adding::words_fit;
@@ -34,7 +35,8 @@ pub(crate) fn next_number(state: &State) -> u32
 
 /// What rows count for.
 pub(crate) fn weights_of(state: &State) -> Weights
-    ensures { result ≡ state.now.index.weights }
+    ensures is { result ≡ state.now.index.weights }
+    ensures scored { AreWeights result }
 {
     state.index.weights
 }

@@ -8,7 +8,7 @@ ghost use Rattle.cs_engine.specs.{Keeping.{KeepsAnswers, note_plan}, Sources.{se
 ghost use Rattle.cs_file.specs.CallAnswers.{is_changed, is_read};
 ghost use Rattle.cs_file.specs.Indexes.{HasAllBlocks, StandsFor, CausedReads};
 ghost use Rattle.cs_file.specs.declared.fault.FetchFault.TheVariants as fetches;
-ghost use Rattle.cs_model.specs.{Parameters.{HoldsLimits}, Requests.{reply_of}};
+ghost use Rattle.cs_model.specs.{Parameters.{HoldsLimits}, Requests.{reply_of}, Weights.{AreWeights}};
 ghost use Rattle.cs_model_changes.specs.Changes.{Change, added, deleted, now};
 ghost use Rattle.cs_model_index.specs.Sections.{file_corpus};
 ghost use Rattle.cs_model_kept.specs.{Due.{due}, declared.limits.TheConstants.{MAX_ENTRIES}};
@@ -97,7 +97,8 @@ impl Live {
 
     /// What the rows count for.
     pub fn weights(&self) -> Weights
-        ensures { result ≡ self.now.state.index.weights }
+        ensures is { result ≡ self.now.state.index.weights }
+        ensures scored { AreWeights result }
     {
         weights_of(&self.state)
     }

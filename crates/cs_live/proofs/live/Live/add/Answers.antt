@@ -10,7 +10,7 @@ use Rattle.cs_live.specs.Lives.{IsAccepted, IsAdded, IsBehind, IsKept, LiveView,
 use Rattle.cs_live.specs.Settling.{HaveWordSize, words_met}
 use Rattle.cs_live.proofs.AddingLemmas.{own_good}
 use Rattle.cs_live.proofs.BehindLemmas.{behind_added}
-use Rattle.cs_live.proofs.LiveLemmas.{added_kept, is_added}
+use Rattle.cs_live.proofs.LiveLemmas.{added_kept, empty_good, is_added}
 use Rattle.cs_live.proofs.SettledLemmas.{good_size}
 use Rattle.cs_live.proofs.live.Live.add.Goals as goal
 
@@ -23,7 +23,7 @@ has_room-requires-clause-own_sized c =
     let w = c.weights_of-weights.result in
     let n = c.next_number-number.result in
     let doc = c.args.doc in
-    let accepted : IsAccepted w doc = subst (λ v. IsAccepted v doc) (sym (c.weights_of-weights.ensures ∙ ap (λ (v : LiveView). v.state.index.weights) c.self.view_is)) c.requires.accepted in
+    let accepted : IsAccepted w doc = subst (λ v. IsAccepted v doc) (sym (c.weights_of-weights.ensures.is ∙ ap (λ (v : LiveView). v.state.index.weights) c.self.view_is)) c.requires.accepted in
     subst (λ rs. HaveWordSize rs) (sym (c.deref-2.ensures.value ∙ c.in_ok-title.ensures.ok.rows))
     (good_size w (map (later_row n) (rows_of w (doc ∷ []))) (own_good w n doc accepted))
 
@@ -56,7 +56,7 @@ accepted c = subst (λ (v : LiveView). IsAccepted v.state.index.weights c.args.d
 own_is : (c : goal.After-forget) → c.in_ok-title.field-0.rows.items ≡ own_rows (before c) c.args.doc
 own_is c =
     c.in_ok-title.ensures.ok.rows
-    ∙ ap₂ (λ v n. map (later_row n) (rows_of v (c.args.doc ∷ []))) c.weights_of-weights.ensures c.next_number-number.ensures.number
+    ∙ ap₂ (λ v n. map (later_row n) (rows_of v (c.args.doc ∷ []))) c.weights_of-weights.ensures.is c.next_number-number.ensures.number
 
 rows_are : (c : goal.After-forget) → (after c).rows ≡ (before c).rows ++ own_rows (before c) c.args.doc
 rows_are c = c.in_ok-put_document.ensures.rows ∙ ap (λ l. c.self.inside.rows.items ++ l) (own_is c)
@@ -107,3 +107,6 @@ pub returns-clause-behind : goal.returns-clause-behind
 returns-clause-behind c b cs stands behind =
     let kept : IsKept c.args.self.now = subst IsKept c.self.view_is c.self.invariant in
     behind_added c.args.self.now kept.live.state b stands cs behind c.args.doc (after c) (subst (λ v. IsAdded v c.args.doc (after c)) c.self.view_is (added_here c))
+
+pub returns-clause-good : goal.returns-clause-good
+returns-clause-good c b = empty_good (after c) c.self.inside.answers.capacity (none c) c.forget.ensures.held b

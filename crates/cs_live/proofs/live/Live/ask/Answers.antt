@@ -1,43 +1,24 @@
-use Rattle.std.proofs.Common.{◌≡◌, ◌+◌, [], not, length, Ok, Err, refl, sym, ap, ap₂, subst, ◌∙◌, inl}
-use Rattle.std.specs.Prelude.{Result, count_by}
-use Rattle.cs_base.specs.declared.content.query.Query.{Query}
-use Rattle.cs_cache.specs.AnswerList.{AnswerList}
-use Rattle.cs_engine.specs.Keeping.{KeepsAnswers}
-use Rattle.cs_engine.specs.declared.note.Note.{Note}
-use Rattle.cs_file.specs.Indexes.{IndexView, StandsFor}
-use Rattle.cs_file.specs.declared.fault.FetchFault.{FetchFault}
-use Rattle.cs_model.specs.Replies.{Reply}
+use Rattle.std.proofs.Common.{◌≡◌, ◌+◌, [], not, length, refl, sym, ap, ap₂, subst, ◌∙◌, inl}
+use Rattle.std.specs.Prelude.{count_by}
+use Rattle.cs_file.specs.Indexes.{StandsFor}
 use Rattle.cs_live.specs.Lives.{AreGoodNow, IsBehind, IsKept, IsLive, LiveView}
 use Rattle.cs_live.proofs.BehindLemmas.{behind_settled}
 use Rattle.cs_live.proofs.LiveLemmas.{settled_good, settled_live, settled_same}
 use Rattle.cs_live.proofs.live.Live.ask.Goals as goal
 
--- there is room for as many answers as before
-same_room : (i : IndexView) (q : Query) (old : AnswerList) (r : Result (Reply × Note) FetchFault) (new : AnswerList) → KeepsAnswers i q old r new → new.capacity ≡ old.capacity
-same_room i q old (Ok r) new h = h.0
-same_room i q old (Err e) new h = h.0
-
 pub invariant_of-self-2 : goal.invariant_of-self-2
 invariant_of-self-2 g c =
-    let kept = c.self.invariant.0 in
-    let room = c.self.invariant.1 in
+    let kept = c.self.invariant in
     let settled = c.in_ok-settle.ensures.ok in
     let none = c.in_ok-settle.ensures.none in
     let l : LiveView = record { state = c.self.inside.state; rows = c.self.inside.rows.items; met = c.self.inside.met; changes = c.self.inside.changes; answers = c.self.inside.answers; held = c.self.inside.held } in
-    (
-      record {
-        live = subst (λ rs. IsLive c.settle.new.state rs c.self.inside.met) (sym none) (settled_live l kept c.settle.new.state settled);
-        counted = kept.counted ∙ ap₂ (λ ts ps. length ts + count_by not ps) (sym settled.added) (sym settled.present);
-        fresh = inl none;
-        answers = c.ask_state.ensures.kept;
-        held = c.ask_state.ensures.held;
-      },
-      record {
-        is = same_room _ _ c.self.inside.answers c.ask_state.result c.ask_state.new.answers c.ask_state.ensures.keeps ∙ room.is;
-        some = room.some;
-        limit = room.limit;
-      },
-    )
+    record {
+      live = subst (λ rs. IsLive c.settle.new.state rs c.self.inside.met) (sym none) (settled_live l kept c.settle.new.state settled);
+      counted = kept.counted ∙ ap₂ (λ ts ps. length ts + count_by not ps) (sym settled.added) (sym settled.present);
+      fresh = inl none;
+      answers = c.ask_state.ensures.kept;
+      held = c.ask_state.ensures.held;
+    }
 
 pub returns-clause-good : goal.returns-clause-good
 returns-clause-good g c b told_is stands good =
@@ -45,7 +26,7 @@ returns-clause-good g c b told_is stands good =
     let settled = c.in_ok-settle.ensures.ok in
     let here : StandsFor b l.state.index = subst (λ (v : LiveView). StandsFor b v.state.index) (sym c.self.view_is) stands in
     let there : StandsFor b c.settle.new.state.index = subst (StandsFor b) (sym settled.index) here in
-    (c.ask_state.ensures.told b told_is there (settled_good l c.self.invariant.0 c.settle.new.state settled b (subst (AreGoodNow b) (sym c.self.view_is) good))).good
+    (c.ask_state.ensures.told b told_is there (settled_good l c.self.invariant c.settle.new.state settled b (subst (AreGoodNow b) (sym c.self.view_is) good))).good
 
 pub returns-clause-behind : goal.returns-clause-behind
 returns-clause-behind g c b cs stands behind =
@@ -53,7 +34,7 @@ returns-clause-behind g c b cs stands behind =
     let m : LiveView = record { state = c.settle.new.state; rows = c.settle.new.rows.items; met = c.self.inside.met; changes = c.self.inside.changes; answers = c.ask_state.new.answers; held = c.ask_state.new.held } in
     let settled = c.in_ok-settle.ensures.ok in
     let none = c.in_ok-settle.ensures.none in
-    let kept = c.self.invariant.0 in
+    let kept = c.self.invariant in
     let here : StandsFor b l.state.index = subst (λ (v : LiveView). StandsFor b v.state.index) (sym c.self.view_is) stands in
     behind_settled l kept.live.state b here cs (subst (IsBehind b cs) (sym c.self.view_is) behind) c.settle.new.state settled m refl none refl refl
     (settled_same l kept c.settle.new.state settled b here m refl none)
