@@ -52,10 +52,10 @@ use Rattle.cs_model_index.specs.Partitions.{is_facet}
 use Rattle.cs_model_index.specs.Sections.{file_corpus}
 use Rattle.cs_model_index.proofs.Listings.{any_listed}
 use Rattle.cs_model_index.proofs.ReadRows.{rows_rise}
-use Rattle.cs_live.specs.Lives.{AreWaiting, IsAccepted, IsGoodRow, LiveView, changing, rows_now}
+use Rattle.cs_live.specs.Lives.{AreWaiting, IsOnlyDoc, IsGoodRow, LiveView, changing, rows_now}
 use Rattle.cs_live.specs.States.{IsState, StateView, now_posts, renumbered, source_now, stock_now, with_title}
 use Rattle.cs_live.proofs.NowLemmas.{all_now}
-use Rattle.cs_live.proofs.OwnRows.{all_map, own_any, own_docs, own_spots, spots_behind}
+use Rattle.cs_live.proofs.AddedRows.{all_map, own_any, own_docs, own_spots, spots_behind}
 use Rattle.cs_live.proofs.StateLemmas.{state_told}
 
 -- ---- lists
@@ -66,7 +66,7 @@ still f (x ∷ xs) ys zero d lt e = ap (λ l. get_or l 0 d) e
 still f (x ∷ xs) ys (suc i) d lt e = ap (λ l. get_or l (suc i) d) e ∙ still f xs (map f (take i xs) ++ drop i xs) i d (omega (arith, lt)) refl
 
 -- ---- the rows of a document
-module _ (w : Weights) (n : ℕ) (doc : Doc) (a : IsAccepted w doc) where
+module _ (w : Weights) (n : ℕ) (doc : Doc) (a : IsOnlyDoc w doc) where
   limits : KeepLimits w (map title_of (doc ∷ [])) (rows_of w (doc ∷ []))
   limits =
       subst (λ ds. KeepLimits w (map title_of ds) (rows_of w ds)) (sym a.documents)
@@ -137,7 +137,7 @@ module _ (s : StateView) (is : IsState s) (t : List ℕ) where
       (λ p i. let doc = i.doc in there_more s.present p.doc (omega (arith, doc, count))) old (stock_within b s.index stands is.index).within)))
 
   -- ---- rows that wait
-  module _ (rows : List Row) (w : AreWaiting s rows) (doc : Doc) (a : IsAccepted s.index.weights doc) where
+  module _ (rows : List Row) (w : AreWaiting s rows) (doc : Doc) (a : IsOnlyDoc s.index.weights doc) where
     abbrev n : ℕ
     n = length s.present
 

@@ -33,7 +33,7 @@ use Rattle.cs_model_index.proofs.ImageLemmas.{titles_listed}
 use Rattle.cs_model_index.proofs.TextLimits.{word_length}
 use Rattle.cs_live.specs.Lives.{AreWaiting, IsGoodRow, LiveView, changing}
 use Rattle.cs_live.specs.States.{IsState, StateView, now_posts, opened_state, renumbered, source_now, stock_now, titles_now}
-use Rattle.cs_live.proofs.TitleLemmas.{titled_all}
+use Rattle.cs_live.proofs.PresentTitles.{titled_all}
 
 -- ---- numbers from 0 on
 pub range_more : (a n : ℕ) → range_with_len a (n + 1) ≡ range_with_len a n ++ (a + n) ∷ []

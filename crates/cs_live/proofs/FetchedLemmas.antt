@@ -28,7 +28,7 @@ use Rattle.cs_engine.proofs.StockLemmas.{docs_are, within_block}
 use Rattle.cs_live.specs.States.{AreScoredNow, IsFetched, IsScoredNow, IsState, IsTitle, StateView, now_posts, rank, renumbered, source_now, stock_now}
 use Rattle.cs_live.proofs.NumberLemmas.{known_word}
 use Rattle.cs_live.proofs.NowLemmas.{all_now, between_now, chosen_now, get_map, now_append}
-use Rattle.cs_live.proofs.TitleLemmas.{title_gone, title_there}
+use Rattle.cs_live.proofs.PresentTitles.{title_gone, title_there}
 
 module _ (s : StateView) (is : IsState s) where
   abbrev N : List Post → List Post

@@ -40,14 +40,14 @@ use Rattle.cs_model_changes.specs.Joined.{later_row}
 use Rattle.cs_model_index.specs.Numbered.{rows_at}
 use Rattle.cs_model_index.specs.Sections.{file_corpus, image_of}
 use Rattle.cs_model_index.proofs.Listings.{listed_few}
-use Rattle.cs_live.specs.Lives.{AreGoodNow, AreWaiting, IsAccepted, IsAdded, IsBehind, IsFresh, IsKept, IsLive, IsRemoved, IsSettled, LiveView, changing, next_number, own_rows}
+use Rattle.cs_live.specs.Lives.{AreGoodNow, AreWaiting, IsOnlyDoc, HasAdded, IsBehind, IsFresh, IsLiveKept, IsLiveState, IsRemoved, IsSettled, LiveView, changing, next_number, own_rows}
 use Rattle.cs_live.specs.Settling.{words_met}
-use Rattle.cs_live.specs.States.{IsState, StateView, opened_state, source_now, stock_now, titles_now, with_title, without}
+use Rattle.cs_live.specs.States.{IsState, StateView, opened_state, source_now, stock_now, titles_now, with_title, without_doc}
 use Rattle.cs_live.proofs.AddingLemmas.{rows_more, titled_is, titled_posts, waiting_more}
 use Rattle.cs_live.proofs.RemovedLemmas.{without_is, without_rows, without_titles}
 use Rattle.cs_live.proofs.SettledLemmas.{met_twice}
 use Rattle.cs_live.proofs.StateLemmas.{titles_long}
-use Rattle.cs_live.proofs.TitleLemmas.{titled_more}
+use Rattle.cs_live.proofs.PresentTitles.{titled_more}
 use Rattle.cs_live.proofs.BeginningLemmas.{none_waiting, opened_is}
 
 -- ---- words
@@ -100,14 +100,14 @@ gone_more ps d here =
 
 -- ---- the beginning
 pub kept_begins : (i : IndexView) → IsIndex i → (l : LiveView) (n : ℕ) → l.state ≡ opened_state i → l.rows ≡ [] → l.met ≡ sum_by (λ h. h.rows) i.heads → l.changes ≡ 0
-    → l.answers ≡ answer_list [] n → l.held ≡ [] → IsKept l
+    → l.answers ≡ answer_list [] n → l.held ≡ [] → IsLiveKept l
 kept_begins i is l n state rows met changes none_a none_h =
     let of_state : IsState l.state = subst IsState (sym state) (opened_is i is) in
     let few = is.few_rows in
     let words = few_met l.state.words in
     let few_words = of_state.few_words in
     record {
-      live = subst (λ rs. IsLive l.state rs l.met) (sym rows) (record {
+      live = subst (λ rs. IsLiveState l.state rs l.met) (sym rows) (record {
         state = of_state;
         waiting = none_waiting l.state of_state;
         few = omega arith;
@@ -121,8 +121,8 @@ kept_begins i is l n state rows met changes none_a none_h =
     }
 
 -- ---- rows that waited
-module _ (l : LiveView) (k : IsKept l) (new : StateView) (h : IsSettled l.state l.rows new) where
-  pub settled_live : IsLive new [] l.met
+module _ (l : LiveView) (k : IsLiveKept l) (new : StateView) (h : IsSettled l.state l.rows new) where
+  pub settled_live : IsLiveState new [] l.met
   settled_live =
       let live = k.live in
       let few_rows = live.few_rows in
@@ -183,20 +183,20 @@ pub behind_now : (b : List ℕ) (cs : List Change) (l : LiveView) → IsBehind b
 behind_now b cs l h = ap (λ (c : Changing). c.corpus) (sym h.corpus)
 
 -- ---- one document more
-module _ (l : LiveView) (k : IsKept l) (doc : Doc) (a : IsAccepted l.state.index.weights doc) (m : LiveView) (t : List ℕ) (n : ℕ)
+module _ (l : LiveView) (k : IsLiveKept l) (doc : Doc) (a : IsOnlyDoc l.state.index.weights doc) (m : LiveView) (t : List ℕ) (n : ℕ)
     (title : t ≡ doc.title) (state : m.state ≡ with_title l.state t) (rows : m.rows ≡ l.rows ++ own_rows l doc) (met : m.met ≡ l.met + length (own_rows l doc))
     (changes : m.changes ≡ l.changes + 1) (none_a : m.answers ≡ answer_list [] n) (none_h : m.held ≡ []) where
   abbrev own : List Row
   own = own_rows l doc
 
-  pub added_kept : length l.state.present < MAX_DOCS → is_utf8 t ≡ true → l.met + length (own_rows l doc) ≤ MAX_ROWS → length (words_met l.state.words (l.rows ++ own_rows l doc)) ≤ MAX_WORDS → IsKept m
+  pub added_kept : length l.state.present < MAX_DOCS → is_utf8 t ≡ true → l.met + length (own_rows l doc) ≤ MAX_ROWS → length (words_met l.state.words (l.rows ++ own_rows l doc)) ≤ MAX_WORDS → IsLiveKept m
   added_kept few text few_rows few_words =
       let live = k.live in
       let of_state : IsState (with_title l.state t) = titled_is l.state live.state t few text in
       let both = length-append l.rows own in
       let old = live.few in
       record {
-        live = subst (λ s. IsLive s m.rows m.met) (sym state) (subst (λ rs. IsLive (with_title l.state t) rs m.met) (sym rows) (record {
+        live = subst (λ s. IsLiveState s m.rows m.met) (sym state) (subst (λ rs. IsLiveState (with_title l.state t) rs m.met) (sym rows) (record {
           state = of_state;
           waiting = waiting_more l.state live.state t l.rows live.waiting doc a;
           few = omega (arith, both, old, met);
@@ -231,7 +231,7 @@ module _ (l : LiveView) (k : IsKept l) (doc : Doc) (a : IsAccepted l.state.index
       let next : length m.state.present ≡ length s.present + 1 = ap (λ (x : StateView). length x.present) state ∙ length-append s.present (true ∷ []) in
       λ j. record { corpus = record { titles = titles j; rows = all j }; next = next j }
 
-  pub is_added : n ≡ l.answers.capacity → IsAdded l doc m
+  pub is_added : n ≡ l.answers.capacity → HasAdded l doc m
   is_added capacity = record {
     index = ap (λ (s : StateView). s.index) state;
     corpus = added_corpus;
@@ -244,21 +244,21 @@ module _ (l : LiveView) (k : IsKept l) (doc : Doc) (a : IsAccepted l.state.index
   }
 
 -- ---- one document less
-module _ (l : LiveView) (k : IsKept l) (d : ℕ) (s : StateView) (h : IsSettled l.state l.rows s) (m : LiveView) (n : ℕ)
-    (state : m.state ≡ without s d) (rows : m.rows ≡ []) (met : m.met ≡ l.met) (changes : m.changes ≡ l.changes + 1)
+module _ (l : LiveView) (k : IsLiveKept l) (d : ℕ) (s : StateView) (h : IsSettled l.state l.rows s) (m : LiveView) (n : ℕ)
+    (state : m.state ≡ without_doc s d) (rows : m.rows ≡ []) (met : m.met ≡ l.met) (changes : m.changes ≡ l.changes + 1)
     (none_a : m.answers ≡ answer_list [] n) (none_h : m.held ≡ []) where
-  of_without : IsState (without s d)
+  of_without : IsState (without_doc s d)
   of_without = without_is s h.is d
 
-  pub removed_kept : get_or l.state.present d false ≡ true → IsKept m
+  pub removed_kept : get_or l.state.present d false ≡ true → IsLiveKept m
   removed_kept here =
       let live = settled_live l k s h in
       let few_rows = live.few_rows in
       let there : get_or s.present d false ≡ true = ap (λ ps. get_or ps d false) h.present ∙ here in
       record {
-        live = subst (λ x. IsLive x m.rows m.met) (sym state) (subst (λ rs. IsLive (without s d) rs m.met) (sym rows) (record {
+        live = subst (λ x. IsLiveState x m.rows m.met) (sym state) (subst (λ rs. IsLiveState (without_doc s d) rs m.met) (sym rows) (record {
           state = of_without;
-          waiting = none_waiting (without s d) of_without;
+          waiting = none_waiting (without_doc s d) of_without;
           few = omega arith;
           few_rows = omega (arith, few_rows, met);
           few_words = live.few_words;
@@ -278,7 +278,7 @@ module _ (l : LiveView) (k : IsKept l) (d : ℕ) (s : StateView) (h : IsSettled 
       let titles : (stock_now m.state b).titles ≡ remove (stock_now l.state b).titles d =
       ap (λ (x : StateView). (stock_now x b).titles) state ∙ without_titles s d b ∙ ap (λ ts. remove ts d) (titles_stay l k s h b stands) in
       let all : rows_at m.state.words (stock_now m.state b).posts ++ m.rows ≡ filter (λ r. not (in_doc d r)) (rows_at l.state.words (stock_now l.state b).posts ++ l.rows) =
-      ap₂ (λ (x : StateView) rs. rows_at x.words (stock_now x b).posts ++ rs) state rows ∙ append-nil (rows_at s.words (stock_now (without s d) b).posts)
+      ap₂ (λ (x : StateView) rs. rows_at x.words (stock_now x b).posts ++ rs) state rows ∙ append-nil (rows_at s.words (stock_now (without_doc s d) b).posts)
       ∙ without_rows s d b ∙ ap (filter (λ r. not (in_doc d r))) (h.rows b stands) in
       let next : length m.state.present ≡ length l.state.present =
       ap (λ (x : StateView). length x.present) state ∙ length-set s.present d false ∙ ap length h.present in

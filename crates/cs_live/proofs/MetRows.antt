@@ -25,7 +25,7 @@ use Rattle.cs_base.proofs.OrdersLemmas.{by_row_exact, by_row_total, rows_up}
 use Rattle.cs_model.specs.Corpus.{Corpus, distinct_words, doc_rows}
 use Rattle.cs_model_index.proofs.Listings.{all_both}
 use Rattle.cs_model_live.specs.LiveStates.{met_rows}
-use Rattle.cs_live.proofs.OwnRows.{numbered_rows, own_any, own_docs, own_spots, spots_behind}
+use Rattle.cs_live.proofs.AddedRows.{numbered_rows, own_any, own_docs, own_spots, spots_behind}
 
 pub record AreBelow (n : ℕ) (xs : List Row) : Type 0 where
   pub up : IsStrictlySortedBy by_spot xs

@@ -19,8 +19,8 @@ use Rattle.cs_engine.specs.Sources.{IsIn, is_there}
 use Rattle.cs_model.specs.Answers.{in_doc}
 use Rattle.cs_model_index.specs.Numbered.{row_of, rows_at}
 use Rattle.cs_model_index.specs.Sections.{image_of}
-use Rattle.cs_live.specs.States.{IsState, StateView, now_posts, renumbered, source_now, stock_now, without}
-use Rattle.cs_live.proofs.TitleLemmas.{there_set, titled_gone}
+use Rattle.cs_live.specs.States.{IsState, StateView, now_posts, renumbered, source_now, stock_now, without_doc}
+use Rattle.cs_live.proofs.PresentTitles.{there_set, titled_gone}
 
 -- ---- numbers
 still_there : (ps : List Bool) (d q : ℕ) → not (q == d) ≡ true → get_or (set ps d false) q false ≡ get_or ps q false
@@ -35,7 +35,7 @@ earlier_not q n d lt le = grind (arith, nat_tests)
 
 -- ---- a state
 module _ (s : StateView) (is : IsState s) (d : ℕ) where
-  held_still : (p : Post) → IsIn (source_now s) p × (not (p.doc == d) ≡ true) → IsIn (source_now (without s d)) p
+  held_still : (p : Post) → IsIn (source_now s) p × (not (p.doc == d) ≡ true) → IsIn (source_now (without_doc s d)) p
   held_still p h =
       let r = h.0.ranged in
       let doc = r.doc in
@@ -45,7 +45,7 @@ module _ (s : StateView) (is : IsState s) (d : ℕ) where
         ranged = record { doc = omega (arith, doc, long); word = r.word; facet = r.facet; scored = r.scored };
       }
 
-  pub without_is : IsState (without s d)
+  pub without_is : IsState (without_doc s d)
   without_is =
       let long = length-set s.present d false in
       let few = is.few_docs in
@@ -65,7 +65,7 @@ module _ (s : StateView) (is : IsState s) (d : ℕ) where
         whole = λ w e lt.
             let both = and_parts s.whole (nat_le s.index.docs d) w in
             still_there s.present d e (earlier_not e s.index.docs d lt both.1) ∙ is.whole both.0 e lt;
-        held = All-weaker (λ p. IsIn (source_now s) p × (not (p.doc == d) ≡ true)) (IsIn (source_now (without s d))) held_still (filter t s.held) (λ k e l. (kept k e l, passed k e l));
+        held = All-weaker (λ p. IsIn (source_now s) p × (not (p.doc == d) ≡ true)) (IsIn (source_now (without_doc s d))) held_still (filter t s.held) (λ k e l. (kept k e l, passed k e l));
         held_sorted = IsStrictlySortedBy-filter by_place t s.held is.held_sorted;
         held_later = All-filter t (λ p. s.index.docs ≤ p.doc) s.held is.held_later;
         titles = is.titles;
@@ -79,7 +79,7 @@ there_and false true = refl
 there_and false false = refl
 
 module _ (s : StateView) (d : ℕ) (b : List ℕ) where
-  pub without_titles : (stock_now (without s d) b).titles ≡ remove (stock_now s b).titles d
+  pub without_titles : (stock_now (without_doc s d) b).titles ≡ remove (stock_now s b).titles d
   without_titles = titled_gone s.present ((image_of b).titles ++ s.added) d
 
   now_left : (posts : List Post) → now_posts s.shift (set s.present d false) posts ≡ filter (λ p. not (p.doc == d)) (now_posts s.shift s.present posts)
@@ -92,11 +92,11 @@ module _ (s : StateView) (d : ℕ) (b : List ℕ) where
       ∙ filter_twice (is_there s.present) t posts)
       ∙ filter_through (renumbered s.shift) t (filter (is_there s.present) posts)
 
-  pub without_posts : (stock_now (without s d) b).posts ≡ filter (λ p. not (p.doc == d)) (stock_now s b).posts
+  pub without_posts : (stock_now (without_doc s d) b).posts ≡ filter (λ p. not (p.doc == d)) (stock_now s b).posts
   without_posts =
       let t : Post → Bool = λ p. not (p.doc == d) in
       ap (λ ps. ps ++ filter t s.held) (now_left (stock_of b).posts)
       ∙ sym (filter-append t (now_posts s.shift s.present (stock_of b).posts) s.held)
 
-  pub without_rows : rows_at s.words (stock_now (without s d) b).posts ≡ filter (λ r. not (in_doc d r)) (rows_at s.words (stock_now s b).posts)
+  pub without_rows : rows_at s.words (stock_now (without_doc s d) b).posts ≡ filter (λ r. not (in_doc d r)) (rows_at s.words (stock_now s b).posts)
   without_rows = ap (rows_at s.words) without_posts ∙ filter_through (row_of s.words) (λ r. not (in_doc d r)) (stock_now s b).posts

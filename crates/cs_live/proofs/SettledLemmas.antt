@@ -45,7 +45,7 @@ use Rattle.cs_model_index.proofs.Listings.{listed_each, listed_few}
 use Rattle.cs_model_index.proofs.NumberedLemmas.{number_below, number_of_word, posts_ascend, rows_of_numbered}
 use Rattle.cs_model_index.proofs.TextLimits.{word_length}
 use Rattle.cs_live.specs.Lives.{AreWaiting, IsGoodRow, IsSettled}
-use Rattle.cs_live.specs.Settling.{AreSettled, HaveWordSize, posts_by, words_met}
+use Rattle.cs_live.specs.Settling.{AreSettled, HaveWordSize, row_posts, words_met}
 use Rattle.cs_live.specs.States.{IsState, StateView, now_posts, renumbered, source_now, stock_now}
 use Rattle.cs_live.specs.declared.settling.Settled.{Settled}
 use Rattle.cs_live.proofs.NowLemmas.{all_now, new_rises, sorted_behind}
@@ -181,7 +181,7 @@ module _ (ws own : List (List ℕ)) (second : List ℕ) (up : IsStrictlySortedBy
       list_any_at (bytes_eq w) ws (get_or second n 0) [] (is.below n 0 (in_second n lt)) ((bytes_eq-Decides w (word_at ws (get_or second n 0))).1 (sym (word_here n w lt e)))
 
   pub posts_are : (ns : List ℕ) (rows : List Row) → map (λ n. get_or own n []) ns ≡ map (λ r. r.word) rows → AllByRecursion (IsBelow (length own)) ns
-      → posts_by second ns rows ≡ numbered ws rows
+      → row_posts second ns rows ≡ numbered ws rows
   posts_are [] [] e l = refl
   posts_are [] (r ∷ rows) e l = no_rows_left _ r.word (map (λ r. r.word) rows) e
   posts_are (n ∷ ns) [] e l = no_numbers_left _ (get_or own n []) (map (λ n. get_or own n []) ns) e
@@ -196,7 +196,7 @@ module _ (ws own : List (List ℕ)) (second : List ℕ) (up : IsStrictlySortedBy
 
 pub brought : (words : List (List ℕ)) (shift : List ℕ) (held : List Post) (rows : List Row) (own : List (List ℕ)) (ns : List ℕ) (m : Merging) (s : Settled) → AreMerged words own m → own ≡ distinct_words rows
     → AreNumbers own ns (map (λ r. r.word) rows) → s.words ≡ m.words.items → s.shift.items ≡ map (λ n. get_or m.first.items n 0) shift
-    → s.held.items ≡ map (renumbered m.first.items) held ++ posts_by m.second.items ns rows → AreSettled words shift held rows s
+    → s.held.items ≡ map (renumbered m.first.items) held ++ row_posts m.second.items ns rows → AreSettled words shift held rows s
 brought words shift held rows own ns m s h own_is numbers same shift_is held_is =
     let below = recursion_from_All (IsBelow (length own)) ns numbers.below in
     record {

@@ -50,7 +50,7 @@ use Rattle.cs_live.specs.States.{IsState, StateView, now_posts, rank, renumbered
 use Rattle.cs_live.proofs.NumberLemmas.{known_word, old_met_prefix, old_met_word, old_range, old_span, rank_step}
 use Rattle.cs_live.proofs.NowLemmas.{all_now, between_now, block_now, chosen_now, dropped_parts, drop_map, flat_parts, flat_same, flat_through, now_flat, now_pieces, now_rises, sorted_behind}
 use Rattle.cs_live.proofs.NowLemmas.{take_map, taken_parts}
-use Rattle.cs_live.proofs.TitleLemmas.{titled_docs, titled_there}
+use Rattle.cs_live.proofs.PresentTitles.{titled_docs, titled_there}
 
 -- ---- lists of blocks
 flat_filter : (t : Post → Bool) (bs : List (List Post)) → flat_map (filter t) bs ≡ filter t (flat_map (λ block. block) bs)

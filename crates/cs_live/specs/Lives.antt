@@ -9,10 +9,10 @@
 --   has_document l d        a number is that of a document
 --   rows_now l b            of the bytes of the index, all rows
 --   changing l b            the corpus now, with the next number
---   met_by l b docs         of the bytes of the index, the rows of the index and of these documents, which were added
+--   rows_met l b docs         of the bytes of the index, the rows of the index and of these documents, which were added
 --   IsBehind b cs l         the corpus now, and all that is counted, is that of the bytes after the changes cs
 --   IsStateOf b l s         the state s of a live corpus is that of the index under changes
---   IsAccepted w doc        a document that is read of a collection with these weights, and the only one there
+--   IsOnlyDoc w doc        a document that is read of a collection with these weights, and the only one there
 --   own_rows l doc          its rows under the next number
 --   full_now l doc          what there is no room for where the document is added; None where it may be
 --   full_of e, NamesFull l doc e      the refusal that a fault names is this one; want of memory names none
@@ -22,13 +22,13 @@
 --   IsSettled s waited new  a state, and rows that waited brought into it
 --   IsGoodRow w r           a row that an index file may have
 --   AreWaiting s rows       rows of added documents, behind all that a state has in memory
---   IsLive s rows met       what always holds of a state and these rows
+--   IsLiveState s rows met       what always holds of a state and these rows
 --   IsAddition w n doc a, HasTooManyRows w doc e     what is added of a document, and why its rows can't be
 --   IsFresh rows a held     nothing is kept and held while rows wait
---   IsKept l                what always holds of an index under changes
---   IsAdded l doc new       what an addition leaves
+--   IsLiveKept l                what always holds of an index under changes
+--   HasAdded l doc new       what an addition leaves
 --   IsRemoved l d new       what a deletion leaves
---   IsCounted l             each change added a number or took one away
+--   CountsChanges l             each change added a number or took one away
 use Rattle.std.specs.Prelude.{◌≡◌, ◌⊎◌, ℕ, ◌+◌, ◌*◌, ◌^◌, ◌≤◌, ◌<◌, Bool, not, true, false, nat_le, nat_lt, List, [], ◌∷◌, ◌++◌, length, count_by, fold, map, slice_index_or, All, MatchOption}
 use Rattle.std.specs.Prelude.{Option, None, Some, Result}
 use Rattle.std.specs.FinMap as map
@@ -99,20 +99,20 @@ abbrev pub changing : LiveView → List ℕ → Changing
 changing l b = record { corpus = record { titles = (stock_now l.state b).titles; rows = rows_now l b }; next = next_number l }
 
 -- also of documents that are gone since
-abbrev pub met_by : LiveView → List ℕ → List Doc → List Row
-met_by l b docs = met_rows l.state.index.weights (file_corpus b) docs
+abbrev pub rows_met : LiveView → List ℕ → List Doc → List Row
+rows_met l b docs = met_rows l.state.index.weights (file_corpus b) docs
 
 -- so `(changing l b).corpus` is `now` of the corpus of the bytes; after no changes it is that corpus
 pub record IsBehind (b : List ℕ) (cs : List Change) (l : LiveView) : Type 0 where
   pub corpus : fold (applied l.state.index.weights) (started (file_corpus b)) cs ≡ changing l b
   pub changes : l.changes ≡ length cs
   pub added : length l.state.added ≡ length (additions_in cs)
-  pub rows : l.met ≡ length (met_by l b (additions_in cs))
-  pub words : words_met l.state.words l.rows ≡ distinct_words (met_by l b (additions_in cs))
+  pub rows : l.met ≡ length (rows_met l b (additions_in cs))
+  pub words : words_met l.state.words l.rows ≡ distinct_words (rows_met l b (additions_in cs))
 
 -- ---- additions
 -- no rule refuses it
-pub record IsAccepted (w : Weights) (doc : Doc) : Type 0 where
+pub record IsOnlyDoc (w : Weights) (doc : Doc) : Type 0 where
   pub collection : List ℕ
   pub accepted : docs_refusal collection ≡ None
   pub weights : weights collection ≡ w
@@ -164,7 +164,7 @@ HasTooManyRows w doc faults.FullWords = ⊥
 HasTooManyRows w doc faults.Memory = Unit {0}
 
 -- the document gets the next number; nothing that was kept or held of the corpus before is left
-pub record IsAdded (l : LiveView) (doc : Doc) (new : LiveView) : Type 0 where
+pub record HasAdded (l : LiveView) (doc : Doc) (new : LiveView) : Type 0 where
   pub index : new.state.index ≡ l.state.index
   pub corpus : (b : List ℕ) → StandsFor b l.state.index → changing new b ≡ applied l.state.index.weights (changing l b) (added doc)
   pub changes : changes_in new ≡ changes_in l + 1
@@ -230,7 +230,7 @@ pub record AreWaiting (s : StateView) (rows : List Row) : Type 0 where
   pub rows_from : All (λ r. from ≤ r.doc) rows
 
 -- and there are few of all
-pub record IsLive (s : StateView) (rows : List Row) (met : ℕ) : Type 0 where
+pub record IsLiveState (s : StateView) (rows : List Row) (met : ℕ) : Type 0 where
   pub state : IsState s
   pub waiting : AreWaiting s rows
   pub few : length rows ≤ met
@@ -242,13 +242,13 @@ abbrev pub IsFresh : List Row → AnswerList → List HeldRange → Type 0
 IsFresh rows answers held = (rows ≡ []) ⊎ ((answers.entries ≡ []) × (held ≡ []))
 
 -- no number is added or goes twice
-abbrev pub IsCounted : LiveView → Type 0
-IsCounted l = l.changes ≡ length l.state.added + count_by not l.state.present
+abbrev pub CountsChanges : LiveView → Type 0
+CountsChanges l = l.changes ≡ length l.state.added + count_by not l.state.present
 
 -- what is kept and held is in the range of the state
-pub record IsKept (l : LiveView) : Type 0 where
-  pub live : IsLive l.state l.rows l.met
-  pub counted : IsCounted l
+pub record IsLiveKept (l : LiveView) : Type 0 where
+  pub live : IsLiveState l.state l.rows l.met
+  pub counted : CountsChanges l
   pub fresh : IsFresh l.rows l.answers l.held
   pub answers : KeepsFitting (seen (source_now l.state)) l.answers.entries
   pub held : All (FitsRange (seen (source_now l.state))) l.held

@@ -4,7 +4,7 @@
 --
 --   words_met words rows    words, and those of rows, each once
 --   HaveWordSize rows       the word of each has as many bytes as a word may have
---   posts_by second ns rows the posts of rows whose words have the numbers ns, which stand for others
+--   row_posts second ns rows    the posts of rows whose words have the numbers ns, which stand for others
 --   AreMergedWith words rows m      words, and those of rows, in one order
 --   AreSettled words shift held rows m    what a state has in place of words, numbers and posts, with rows brought in
 use Rattle.std.specs.Prelude.{◌≡◌, ℕ, List, [], ◌∷◌, ◌++◌, map, slice_index_or}
@@ -30,10 +30,10 @@ abbrev pub HaveWordSize : List Row → Type 0
 HaveWordSize rows = AreOfWordSize (map (λ r. r.word) rows)
 
 -- as many as both have
-abbrev pub posts_by : List ℕ → List ℕ → List Row → List Post
-posts_by second [] rows = []
-posts_by second (n ∷ ns) [] = []
-posts_by second (n ∷ ns) (r ∷ rows) = record { doc = r.doc; word = slice_index_or second n 0; pos = r.pos; score = r.score } ∷ posts_by second ns rows
+abbrev pub row_posts : List ℕ → List ℕ → List Row → List Post
+row_posts second [] rows = []
+row_posts second (n ∷ ns) [] = []
+row_posts second (n ∷ ns) (r ∷ rows) = record { doc = r.doc; word = slice_index_or second n 0; pos = r.pos; score = r.score } ∷ row_posts second ns rows
 
 -- of no rows the words themselves
 pub record AreMergedWith (words : List (List ℕ)) (rows : List Row) (m : Merging) : Type 0 where

@@ -13,7 +13,7 @@
 --   source_now s          a state as a source
 --   opened_state i       an index before the first change
 --   with_title s t       one document more, without rows
---   without s d          the document of a number gone
+--   without_doc s d      the document of a number gone
 --   IsState s            what always holds of a state
 --   IsFetched i told k shift present lo hi listed posts    what a fetch of a block gives: its posts that are sought, as they are now
 --   AreScoredNow shift present docs words scores ..    documents, words and scores of posts as they are now, of those of posts
@@ -99,8 +99,8 @@ abbrev pub with_title : StateView → List ℕ → StateView
 with_title s t = record s { present = s.present ++ true ∷ []; added = s.added ++ t ∷ [] }
 
 -- its rows in memory go, and those of blocks are left out from then on; its number comes to no other document
-abbrev pub without : StateView → ℕ → StateView
-without s d = record s {
+abbrev pub without_doc : StateView → ℕ → StateView
+without_doc s d = record s {
   present = slice_set s.present d false;
   whole = s.whole && nat_le s.index.docs d;
   held = filter (λ p. not (p.doc == d)) s.held;

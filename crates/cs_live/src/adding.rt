@@ -7,7 +7,7 @@ ghost use Rattle.cs_merge.specs.Vocabularies.{AreOfWordSize};
 ghost use Rattle.cs_model.specs.Collection.{docs_refusal, documents};
 ghost use Rattle.cs_model.specs.Corpus.{rows_of};
 ghost use Rattle.cs_model_changes.specs.Joined.{later_row};
-ghost use Rattle.cs_live.specs.{Lives.{IsAccepted, IsAddition, HasTooManyRows}, Settling.{HaveWordSize, words_met}, States.{with_title}};
+ghost use Rattle.cs_live.specs.{Lives.{IsOnlyDoc, IsAddition, HasTooManyRows}, Settling.{HaveWordSize, words_met}, States.{with_title}};
 
 use crate::fault::AddFault;
 use crate::settling::merged_with;
@@ -33,7 +33,7 @@ pub(crate) fn addition_of(
     weights: Weights,
     number: u32,
 ) -> Result<Addition, AddFault>
-    requires { IsAccepted weights doc }
+    requires { IsOnlyDoc weights doc }
 
     ensures ok { IfOk result (IsAddition weights number doc) }
     ensures err { IfErr result (HasTooManyRows weights doc) }

@@ -10,7 +10,7 @@ use cs_base::{Memory, Row, Weights};
 use std::alloc::Global;
 
 /// Whether a number is that of a document.
-pub(crate) fn has_document(state: &State, doc: u32) -> bool
+pub(crate) fn is_present(state: &State, doc: u32) -> bool
     ensures { result ≡ slice_index_or state.now.present doc false }
 {
     is_set(&state.present, doc)
@@ -26,7 +26,7 @@ fn is_set(present: &[bool], doc: u32) -> bool
 }
 
 /// The number that the next document gets.
-pub(crate) fn next_number(state: &State) -> u32
+pub(crate) fn numbers_given(state: &State) -> u32
     ensures number { result ≡ length state.now.present }
     ensures few { result ≤ MAX_DOCS }
 {
@@ -34,7 +34,7 @@ pub(crate) fn next_number(state: &State) -> u32
 }
 
 /// What rows count for.
-pub(crate) fn weights_of(state: &State) -> Weights
+pub(crate) fn index_weights(state: &State) -> Weights
     ensures is { result ≡ state.now.index.weights }
     ensures scored { AreWeights result }
 {

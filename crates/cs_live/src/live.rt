@@ -14,15 +14,15 @@ ghost use Rattle.cs_model_index.specs.Sections.{file_corpus};
 ghost use Rattle.cs_model_kept.specs.{Due.{due}, declared.limits.TheConstants.{MAX_ENTRIES}};
 ghost use Rattle.cs_model_live.specs.{Courses.{IsChanged}, LiveStates.{LiveState}};
 ghost use Rattle.cs_query.specs.RequestView.{asked};
-ghost use Rattle.cs_live.specs.Lives.{AreGoodNow, IsAccepted, IsAdded, IsAfterNow, IsBehind, IsRemoved, IsStateOf, NamesFull, changes_in};
+ghost use Rattle.cs_live.specs.Lives.{AreGoodNow, IsOnlyDoc, HasAdded, IsAfterNow, IsBehind, IsRemoved, IsStateOf, NamesFull, changes_in};
 ghost use Rattle.cs_live.specs.{Lives.{full_now, has_document, most_held, next_number}, States.{source_now}};
 ghost use Rattle.cs_live.specs.declared.fault.RemoveFault.TheVariants as removals;
 
 use crate::adding::{Addition, addition_of, put_document};
 use crate::asking::ask_state;
-use crate::facts::{has_document, has_room, next_number, weights_of};
+use crate::facts::{is_present, has_room, numbers_given, index_weights};
 use crate::fault::{AddFault, RemoveFault};
-use crate::settling::settle;
+use crate::settling::bring_in;
 use crate::state::{State, rows_of_index};
 use cs_base::{Doc, MAX_DOCS, MAX_ROWS, Memory, Row, Store, Weights};
 use cs_cache::Answers;
@@ -49,13 +49,13 @@ pub struct Live {
 }
 
 impl Model for Live {
-    ghost use Rattle.cs_live.specs.Lives.{IsKept, LiveView};
+    ghost use Rattle.cs_live.specs.Lives.{IsLiveKept, LiveView};
 
     ghost Value = { LiveView };
 
     ghost view = { λ l. record { state = l.state; rows = l.rows.items; met = l.met; changes = l.changes; answers = l.answers; held = l.held } };
 
-    ghost invariant = { λ l. IsKept (record { state = l.state; rows = l.rows.items; met = l.met; changes = l.changes; answers = l.answers; held = l.held }) };
+    ghost invariant = { λ l. IsLiveKept (record { state = l.state; rows = l.rows.items; met = l.met; changes = l.changes; answers = l.answers; held = l.held }) };
 }
 
 impl Live {
@@ -100,17 +100,17 @@ impl Live {
         ensures is { result ≡ self.now.state.index.weights }
         ensures scored { AreWeights result }
     {
-        weights_of(&self.state)
+        index_weights(&self.state)
     }
 
     /// Adds a document that is read of a collection, and gives its number, which no document has had. What was kept and held goes.
     ///
     /// Documents, rows and words that are gone count as those that are there. Where it is refused, nothing changes.
     pub fn add(&mut self, alloc: Global, doc: Doc) -> Result<u32, AddFault>
-        requires accepted { IsAccepted self.old.state.index.weights doc }
+        requires accepted { IsOnlyDoc self.old.state.index.weights doc }
 
         ensures number { IfOk result (λ n. n ≡ next_number self.old) }
-        ensures added { OnOk result (IsAdded self.old doc self.new) }
+        ensures added { OnOk result (HasAdded self.old doc self.new) }
         ensures behind { OnOk result ((b : List ℕ) (cs : List Change) → StandsFor b self.old.state.index → IsBehind b cs self.old
             → IsBehind b (cs ++ added doc ∷ []) self.new) }
         ensures good { OnOk result ((b : List ℕ) → AreGoodNow b self.new) }
@@ -118,11 +118,11 @@ impl Live {
         ensures err { IfErr result (NamesFull self.old doc) }
         ensures kept { OnErr result (self.new ≡ self.old) }
     {
-        let number = next_number(&self.state);
+        let number = numbers_given(&self.state);
         if number as usize >= MAX_DOCS {
             return Err(AddFault::FullDocs);
         }
-        let weights = weights_of(&self.state);
+        let weights = index_weights(&self.state);
         let Addition { title, rows } = addition_of(alloc, doc, weights, number)?;
         if rows.len() > MAX_ROWS - self.met as usize {
             return Err(AddFault::FullRows);
@@ -149,10 +149,10 @@ impl Live {
         ensures absent { (result ≡ Err removals.Absent) ↔ (has_document self.old doc ≡ false) }
         ensures kept { OnErr result (self.new ≡ self.old) }
     {
-        if !has_document(&self.state, doc) {
+        if !is_present(&self.state, doc) {
             return Err(RemoveFault::Absent);
         }
-        settle(alloc, &mut self.state, &mut self.rows)?;
+        bring_in(alloc, &mut self.state, &mut self.rows)?;
         self.state.remove(doc);
         self.changes += 1;
         forget(alloc, &mut self.answers, &mut self.held);
@@ -198,7 +198,7 @@ impl Live {
         ensures bounded { range_bytes self.new.held ≤ most_held }
         ensures given { result ≡ Err fetches.Memory → self.new.held ≡ [] }
     {
-        settle(alloc, &mut self.state, &mut self.rows)?;
+        bring_in(alloc, &mut self.state, &mut self.rows)?;
         ask_state(
             alloc,
             &self.state,

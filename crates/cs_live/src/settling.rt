@@ -6,7 +6,7 @@ ghost use Rattle.cs_merge.specs.Vocabularies.{AreOfWordSize};
 ghost use Rattle.cs_model.specs.Corpus.{distinct_words};
 ghost use Rattle.cs_vocab.specs.Ranges.{AreNumbers};
 ghost use Rattle.cs_live.specs.Lives.{AreWaiting, IsSettled};
-ghost use Rattle.cs_live.specs.Settling.{AreMergedWith, AreSettled, HaveWordSize, posts_by, words_met};
+ghost use Rattle.cs_live.specs.Settling.{AreMergedWith, AreSettled, HaveWordSize, row_posts, words_met};
 ghost use Rattle.cs_live.specs.States.{IsState, renumbered};
 
 use crate::rows::renumbered;
@@ -28,7 +28,7 @@ pub(crate) struct Settled {
 }
 
 /// Brings rows that wait into a state, so that none wait. Where memory runs out, nothing changes.
-pub(crate) fn settle(alloc: Global, state: &mut State, rows: &mut Vec<Row>) -> Result<(), Memory>
+pub(crate) fn bring_in(alloc: Global, state: &mut State, rows: &mut Vec<Row>) -> Result<(), Memory>
     requires is { IsState state.old }
     requires waiting { AreWaiting state.old rows.old.items }
     requires few { length rows.old.items ≤ MAX_ROWS }
@@ -75,7 +75,7 @@ pub(crate) fn brought_in(
         second,
     } = merged(alloc, words, &own)?;
     let shift = numbers_by(alloc, &first, shift)?;
-    let mut held = posts_by(alloc, &first, held)?;
+    let mut held = renumber(alloc, &first, held)?;
     add_posts(&mut held, &second, numbers.as_slice(), rows)?;
     let words = Vocab::from_words(Seq::from_vec(both));
     Ok(Settled { words, shift, held })
@@ -122,7 +122,7 @@ fn numbers_by(alloc: Global, first: &[u32], numbers: &[u32]) -> Result<Vec<u32>,
 }
 
 // The rows with the numbers that their words have now.
-fn posts_by(alloc: Global, first: &[u32], posts: &[Post]) -> Result<Vec<Post>, Memory>
+fn renumber(alloc: Global, first: &[u32], posts: &[Post]) -> Result<Vec<Post>, Memory>
     requires { All (λ p. p.word < length first.now) posts.now }
 
     ensures { IfOk result (λ v. v.items ≡ map (renumbered first.now) posts.now) }
@@ -144,7 +144,7 @@ fn add_posts(
     requires even { length numbers.now ≡ length rows.now }
     requires below { All (λ n. n < length second.now) numbers.now }
 
-    ensures { OnOk result (held.new.items ≡ held.old.items ++ posts_by second.now numbers.now rows.now) }
+    ensures { OnOk result (held.new.items ≡ held.old.items ++ row_posts second.now numbers.now rows.now) }
 {
     for i in 0..rows.len() {
         held.push(Post {

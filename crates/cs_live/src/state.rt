@@ -3,7 +3,7 @@ ghost use Rattle.std.specs.Prelude.{◌≡◌, ◌≤◌, ◌<◌, ◌==◌, fil
 ghost use Rattle.std.specs.List.{range_with_len, sum_by};
 ghost use Rattle.std.specs.Str.{is_utf8};
 ghost use Rattle.cs_base.specs.declared.content.limits.TheConstants.{MAX_DOCS, MAX_ROWS, MAX_WORDS};
-ghost use Rattle.cs_live.specs.{Lives.{AreWaiting, IsSettled}, Settling.{words_met}, States.{IsState, opened_state, with_title, without}};
+ghost use Rattle.cs_live.specs.{Lives.{AreWaiting, IsSettled}, Settling.{words_met}, States.{IsState, opened_state, with_title, without_doc}};
 
 use crate::settling::{Settled, brought_in};
 use cs_base::{BlockHead, Memory, Post, Row, Seq, Text};
@@ -96,7 +96,7 @@ impl State {
     pub(crate) fn remove(&mut self, doc: u32)
         requires { doc < length self.old.present }
 
-        ensures { self.new ≡ without self.old doc }
+        ensures { self.new ≡ without_doc self.old doc }
     {
         let added = docs_of(&self.index) <= doc;
         self.present[doc as usize] = false;

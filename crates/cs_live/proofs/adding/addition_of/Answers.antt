@@ -9,7 +9,7 @@ use Rattle.cs_base.specs.declared.content.doc.Row.{Row}
 use Rattle.cs_model.specs.Corpus.{rows_of}
 use Rattle.cs_model_changes.specs.Joined.{later_row}
 use Rattle.cs_live.proofs.AddingLemmas.{own_text}
-use Rattle.cs_live.proofs.OwnRows.{first_docs}
+use Rattle.cs_live.proofs.AddedRows.{first_docs}
 use Rattle.cs_live.proofs.adding.addition_of.Goals as goal
 
 pub put_number-requires : goal.put_number-requires

@@ -1,6 +1,6 @@
 use Rattle.std.proofs.Common.{◌≡◌, ◌++◌, drop}
-use Rattle.cs_live.specs.Settling.{posts_by}
+use Rattle.cs_live.specs.Settling.{row_posts}
 use Rattle.cs_live.proofs.settling.add_posts.Given as goal
 
 abbrev pub invariant-loop-i : goal.invariant-loop-i
-invariant-loop-i l = l.initial.held.items ++ posts_by l.second l.numbers l.rows ≡ l.held.items ++ posts_by l.second (drop l.i l.numbers) (drop l.i l.rows)
+invariant-loop-i l = l.initial.held.items ++ row_posts l.second l.numbers l.rows ≡ l.held.items ++ row_posts l.second (drop l.i l.numbers) (drop l.i l.rows)

@@ -3,7 +3,7 @@ use Rattle.std.specs.Ordering.{nat_cmp}
 use Rattle.std.specs.Cmp.Lexicographic.{slice_cmp}
 use Rattle.cs_base.specs.content.Members.{members_in}
 use Rattle.cs_merge.specs.Vocabularies.{AreOfWordSize}
-use Rattle.cs_live.specs.Settling.{posts_by}
+use Rattle.cs_live.specs.Settling.{row_posts}
 use Rattle.cs_live.specs.States.{renumbered}
 use Rattle.cs_live.proofs.SettledLemmas.{all_distinct, brought, met_distinct}
 use Rattle.cs_live.proofs.settling.brought_in.Goals as goal
@@ -26,4 +26,4 @@ returns c =
     c.in_ok-own.ensures.numbers (c.from_words-words.ensures ∙ c.from_vec.ensures)
     (c.in_ok-shift.ensures ∙ ap (λ first. map (λ n. get_or first n 0) c.args.shift.now) c.deref.ensures.value)
     (c.in_ok-add_posts.ensures ∙ ap₂ (λ ps qs. ps ++ qs) (c.in_ok-held.ensures ∙ ap (λ first. map (renumbered first) c.args.held.now) c.deref-2.ensures.value)
-    (ap₂ (λ second ns. posts_by second ns c.args.rows.now) c.deref-3.ensures.value c.as_slice.ensures))
+    (ap₂ (λ second ns. row_posts second ns c.args.rows.now) c.deref-3.ensures.value c.as_slice.ensures))

@@ -6,10 +6,10 @@ use Rattle.cs_base.specs.declared.content.limits.TheConstants.{MAX_DOCS, MAX_ROW
 use Rattle.cs_cache.specs.AnswerList.{AnswerList, answer_list}
 use Rattle.cs_model.specs.Corpus.{rows_of}
 use Rattle.cs_model_changes.specs.Joined.{later_row}
-use Rattle.cs_live.specs.Lives.{IsAccepted, IsAdded, IsBehind, IsKept, LiveView, own_rows}
+use Rattle.cs_live.specs.Lives.{IsOnlyDoc, HasAdded, IsBehind, IsLiveKept, LiveView, own_rows}
 use Rattle.cs_live.specs.Settling.{HaveWordSize, words_met}
 use Rattle.cs_live.proofs.AddingLemmas.{own_good}
-use Rattle.cs_live.proofs.BehindLemmas.{behind_added}
+use Rattle.cs_live.proofs.ChangedLemmas.{behind_added}
 use Rattle.cs_live.proofs.LiveLemmas.{added_kept, empty_good, is_added}
 use Rattle.cs_live.proofs.SettledLemmas.{good_size}
 use Rattle.cs_live.proofs.live.Live.add.Goals as goal
@@ -20,10 +20,10 @@ has_room-requires-clause-row_sized c =
 
 pub has_room-requires-clause-own_sized : goal.has_room-requires-clause-own_sized
 has_room-requires-clause-own_sized c =
-    let w = c.weights_of-weights.result in
-    let n = c.next_number-number.result in
+    let w = c.index_weights-weights.result in
+    let n = c.numbers_given-number.result in
     let doc = c.args.doc in
-    let accepted : IsAccepted w doc = subst (λ v. IsAccepted v doc) (sym (c.weights_of-weights.ensures.is ∙ ap (λ (v : LiveView). v.state.index.weights) c.self.view_is)) c.requires.accepted in
+    let accepted : IsOnlyDoc w doc = subst (λ v. IsOnlyDoc v doc) (sym (c.index_weights-weights.ensures.is ∙ ap (λ (v : LiveView). v.state.index.weights) c.self.view_is)) c.requires.accepted in
     subst (λ rs. HaveWordSize rs) (sym (c.deref-2.ensures.value ∙ c.in_ok-title.ensures.ok.rows))
     (good_size w (map (later_row n) (rows_of w (doc ∷ []))) (own_good w n doc accepted))
 
@@ -50,13 +50,13 @@ after c = record {
   held = c.forget.new.held;
 }
 
-accepted : (c : goal.After-forget) → IsAccepted (before c).state.index.weights c.args.doc
-accepted c = subst (λ (v : LiveView). IsAccepted v.state.index.weights c.args.doc) (sym c.self.view_is) c.requires.accepted
+accepted : (c : goal.After-forget) → IsOnlyDoc (before c).state.index.weights c.args.doc
+accepted c = subst (λ (v : LiveView). IsOnlyDoc v.state.index.weights c.args.doc) (sym c.self.view_is) c.requires.accepted
 
 own_is : (c : goal.After-forget) → c.in_ok-title.field-0.rows.items ≡ own_rows (before c) c.args.doc
 own_is c =
     c.in_ok-title.ensures.ok.rows
-    ∙ ap₂ (λ v n. map (later_row n) (rows_of v (c.args.doc ∷ []))) c.weights_of-weights.ensures.is c.next_number-number.ensures.number
+    ∙ ap₂ (λ v n. map (later_row n) (rows_of v (c.args.doc ∷ []))) c.index_weights-weights.ensures.is c.numbers_given-number.ensures.number
 
 rows_are : (c : goal.After-forget) → (after c).rows ≡ (before c).rows ++ own_rows (before c) c.args.doc
 rows_are c = c.in_ok-put_document.ensures.rows ∙ ap (λ l. c.self.inside.rows.items ++ l) (own_is c)
@@ -86,7 +86,7 @@ invariant_of-self-2 c =
     let l = before c in
     let own = own_long c in
     let few = c.if-number-ge-MAX_DOCS.false in
-    let number = c.next_number-number.ensures.number in
+    let number = c.numbers_given-number.ensures.number in
     let rows = c.if-len-self.false in
     let few_rows = kept.live.few_rows in
     let long = c.len-2.ensures in
@@ -95,18 +95,18 @@ invariant_of-self-2 c =
       (ap (λ n. c.self.inside.met + n) own) refl (none c) c.forget.ensures.held
       (omega (arith, few, number)) c.in_ok-title.ensures.ok.text (omega (arith, rows, few_rows, own, long, same)) (words_fit c)
 
-added_here : (c : goal.After-forget) → IsAdded (before c) c.args.doc (after c)
+added_here : (c : goal.After-forget) → HasAdded (before c) c.args.doc (after c)
 added_here c =
     is_added (before c) c.self.invariant c.args.doc (accepted c) (after c) c.in_ok-title.field-0.title c.self.inside.answers.capacity c.in_ok-title.ensures.ok.title c.in_ok-put_document.ensures.state
     (rows_are c) (ap (λ n. c.self.inside.met + n) (own_long c)) refl (none c) c.forget.ensures.held refl
 
 pub returns-clause-added : goal.returns-clause-added
-returns-clause-added c = subst (λ v. IsAdded v c.args.doc (after c)) c.self.view_is (added_here c)
+returns-clause-added c = subst (λ v. HasAdded v c.args.doc (after c)) c.self.view_is (added_here c)
 
 pub returns-clause-behind : goal.returns-clause-behind
 returns-clause-behind c b cs stands behind =
-    let kept : IsKept c.args.self.now = subst IsKept c.self.view_is c.self.invariant in
-    behind_added c.args.self.now kept.live.state b stands cs behind c.args.doc (after c) (subst (λ v. IsAdded v c.args.doc (after c)) c.self.view_is (added_here c))
+    let kept : IsLiveKept c.args.self.now = subst IsLiveKept c.self.view_is c.self.invariant in
+    behind_added c.args.self.now kept.live.state b stands cs behind c.args.doc (after c) (subst (λ v. HasAdded v c.args.doc (after c)) c.self.view_is (added_here c))
 
 pub returns-clause-good : goal.returns-clause-good
 returns-clause-good c b = empty_good (after c) c.self.inside.answers.capacity (none c) c.forget.ensures.held b

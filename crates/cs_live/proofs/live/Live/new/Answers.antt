@@ -2,7 +2,7 @@ use Rattle.std.proofs.Common.{ap, refl, subst}
 use Rattle.cs_cache.specs.AnswerList.{AnswerList}
 use Rattle.cs_file.specs.Indexes.{IsIndex}
 use Rattle.cs_live.specs.Lives.{LiveView}
-use Rattle.cs_live.proofs.BehindLemmas.{begins}
+use Rattle.cs_live.proofs.ChangedLemmas.{begins}
 use Rattle.cs_live.proofs.LiveLemmas.{kept_begins}
 use Rattle.cs_live.proofs.live.Live.new.Goals as goal
 

@@ -1,7 +1,7 @@
 use Rattle.std.proofs.Common.{◌≡◌, ◌+◌, ◌++◌, ◌∷◌, [], true, false, get_or, refl, sym, ap, subst, ◌∙◌}
 use Rattle.cs_cache.specs.AnswerList.{AnswerList, answer_list}
-use Rattle.cs_live.specs.Lives.{IsKept, IsRemoved, LiveView}
-use Rattle.cs_live.proofs.BehindLemmas.{behind_removed}
+use Rattle.cs_live.specs.Lives.{IsLiveKept, IsRemoved, LiveView}
+use Rattle.cs_live.proofs.ChangedLemmas.{behind_removed}
 use Rattle.cs_live.proofs.LiveLemmas.{empty_good, is_removed, removed_kept}
 use Rattle.cs_live.proofs.live.Live.remove.Goals as goal
 
@@ -12,7 +12,7 @@ before c = record { state = c.self.inside.state; rows = c.self.inside.rows.items
 abbrev after : goal.After-forget → LiveView
 after c = record {
   state = c.remove.new.self;
-  rows = c.settle.new.rows.items;
+  rows = c.bring_in.new.rows.items;
   met = c.self.inside.met;
   changes = c.self.inside.changes + 1;
   answers = c.forget.new.answers;
@@ -24,20 +24,20 @@ none c = c.forget.ensures.answers
 
 removed_here : (c : goal.After-forget) → IsRemoved (before c) c.args.doc (after c)
 removed_here c =
-    is_removed (before c) c.self.invariant c.args.doc c.settle.new.state c.in_ok-settle.ensures.ok (after c) c.self.inside.answers.capacity c.remove.ensures c.in_ok-settle.ensures.none refl refl (none c)
+    is_removed (before c) c.self.invariant c.args.doc c.bring_in.new.state c.in_ok-settle.ensures.ok (after c) c.self.inside.answers.capacity c.remove.ensures c.in_ok-settle.ensures.none refl refl (none c)
     c.forget.ensures.held refl
 
 pub invariant_of-self-2 : goal.invariant_of-self-2
 invariant_of-self-2 c =
-    removed_kept (before c) c.self.invariant c.args.doc c.settle.new.state c.in_ok-settle.ensures.ok (after c) c.self.inside.answers.capacity c.remove.ensures c.in_ok-settle.ensures.none refl refl (none c)
-      c.forget.ensures.held (sym c.has_document.ensures ∙ c.if-not-has_document.false)
+    removed_kept (before c) c.self.invariant c.args.doc c.bring_in.new.state c.in_ok-settle.ensures.ok (after c) c.self.inside.answers.capacity c.remove.ensures c.in_ok-settle.ensures.none refl refl (none c)
+      c.forget.ensures.held (sym c.is_present.ensures ∙ c.if-not-is_present.false)
 
 pub returns-clause-removed : goal.returns-clause-removed
 returns-clause-removed c = subst (λ v. IsRemoved v c.args.doc (after c)) c.self.view_is (removed_here c)
 
 pub returns-clause-behind : goal.returns-clause-behind
 returns-clause-behind c b cs stands behind =
-    let kept : IsKept c.args.self.now = subst IsKept c.self.view_is c.self.invariant in
+    let kept : IsLiveKept c.args.self.now = subst IsLiveKept c.self.view_is c.self.invariant in
     behind_removed c.args.self.now kept.live.state b stands cs behind c.args.doc (after c) (subst (λ v. IsRemoved v c.args.doc (after c)) c.self.view_is (removed_here c))
 
 pub returns-clause-good : goal.returns-clause-good

@@ -1,6 +1,6 @@
 use Rattle.std.proofs.Common.{◌≡◌, ◌∙◌, ◌&&◌, ap, subst, sym, set, false}
 use Rattle.std.specs.Prelude.{nat_le}
-use Rattle.cs_live.specs.States.{IsState, StateView, without}
+use Rattle.cs_live.specs.States.{IsState, StateView, without_doc}
 use Rattle.cs_live.proofs.RemovedLemmas.{without_is}
 use Rattle.cs_live.proofs.state.State.remove.Goals as goal
 use Rattle.cs_live.proofs.state.State.remove.Goals.{then-self, else-self}
@@ -14,7 +14,7 @@ invariant_of-self c =
       | then-self w ↦ w.self-is ∙ ap (λ n. nat_le n d) c.docs_of.ensures ∙ sym (ap (λ b. b && nat_le i.index.docs d) w.if-self.true)
       | else-self w ↦ w.self-is ∙ w.if-self.false ∙ sym (ap (λ b. b && nat_le i.index.docs d) w.if-self.false)
     ] in
-    let state : ◌≡◌ {A = StateView} (without s d) (record {
+    let state : ◌≡◌ {A = StateView} (without_doc s d) (record {
       index = i.index;
       words = i.words;
       shift = i.shift.items;

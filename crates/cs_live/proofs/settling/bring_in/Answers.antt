@@ -1,7 +1,7 @@
 use Rattle.std.proofs.Common.{◌≡◌, length, rules}
 use Rattle.std.proofs.lemmas.List.{nil_from_length}
 use Rattle.cs_live.proofs.SettledLemmas.{none_settled}
-use Rattle.cs_live.proofs.settling.settle.Goals as goal
+use Rattle.cs_live.proofs.settling.bring_in.Goals as goal
 
 pub returns-then-is_empty-clause-ok : goal.returns-then-is_empty-clause-ok
 returns-then-is_empty-clause-ok c =

@@ -44,15 +44,15 @@ use Rattle.cs_model_index.proofs.ReadImages.{images_read}
 use Rattle.cs_model_index.proofs.ReadRows.{rows_rise}
 use Rattle.cs_model_live.specs.Courses.{IsChanged, additions_in}
 use Rattle.cs_model_live.specs.LiveStates.{Full, LiveState, full_docs, full_rows, full_words, met_rows}
-use Rattle.cs_live.specs.Lives.{IsAdded, IsBehind, IsRemoved, IsSettled, IsStateOf, LiveView, changing, met_by, next_number, own_rows}
+use Rattle.cs_live.specs.Lives.{HasAdded, IsBehind, IsRemoved, IsSettled, IsStateOf, LiveView, changing, rows_met, next_number, own_rows}
 use Rattle.cs_live.specs.Settling.{words_met}
 use Rattle.cs_live.specs.States.{IsState, StateView, opened_state}
 use Rattle.cs_live.proofs.BeginningLemmas.{opened_corpus}
 use Rattle.cs_live.proofs.MetRows.{AreBelow, distinct_more, met_more, met_none}
-use Rattle.cs_live.proofs.OwnRows.{all_map, numbered_rows}
+use Rattle.cs_live.proofs.AddedRows.{all_map, numbered_rows}
 use Rattle.cs_live.proofs.SettledLemmas.{met_twice}
 use Rattle.cs_live.proofs.StateLemmas.{titles_long}
-use Rattle.cs_live.proofs.TitleLemmas.{titled_there}
+use Rattle.cs_live.proofs.PresentTitles.{titled_there}
 
 -- ---- lists
 long_numbered : {X : Type 0} (a : ℕ) (xs : List X) → length (enumerate_from a xs) ≡ length xs
@@ -161,24 +161,24 @@ module _ (l : LiveView) (is : IsState l.state) (b : List ℕ) (stands : StandsFo
       let many = h.added in
       omega (arith, docs, count, many)
 
-  own_met : (doc : Doc) → met_by l b (additions_in cs ++ doc ∷ []) ≡ met_by l b (additions_in cs) ++ own_rows l doc
+  own_met : (doc : Doc) → rows_met l b (additions_in cs ++ doc ∷ []) ≡ rows_met l b (additions_in cs) ++ own_rows l doc
   own_met doc =
       met_more w (file_corpus b) (file_below l.state.index is.index b stands) adds doc
-      ∙ ap (λ n. met_by l b adds ++ numbered_rows w n doc) next
+      ∙ ap (λ n. rows_met l b adds ++ numbered_rows w n doc) next
 
-  rows_counted : (doc : Doc) → length (met_by l b (additions_in cs ++ doc ∷ [])) ≡ l.met + length (own_rows l doc)
+  rows_counted : (doc : Doc) → length (rows_met l b (additions_in cs ++ doc ∷ [])) ≡ l.met + length (own_rows l doc)
   rows_counted doc =
       let all = ap length (own_met doc) in
-      let both = length-append (met_by l b adds) (own_rows l doc) in
+      let both = length-append (rows_met l b adds) (own_rows l doc) in
       let rows = h.rows in
       omega (arith, all, both, rows)
 
-  words_counted : (doc : Doc) → distinct_words (met_by l b (additions_in cs ++ doc ∷ [])) ≡ words_met l.state.words (l.rows ++ own_rows l doc)
+  words_counted : (doc : Doc) → distinct_words (rows_met l b (additions_in cs ++ doc ∷ [])) ≡ words_met l.state.words (l.rows ++ own_rows l doc)
   words_counted doc =
-      ap distinct_words (own_met doc) ∙ distinct_more (met_by l b adds) (own_rows l doc)
+      ap distinct_words (own_met doc) ∙ distinct_more (rows_met l b adds) (own_rows l doc)
       ∙ ap (λ vs. words_met vs (own_rows l doc)) (sym h.words) ∙ met_twice l.state.words l.rows (own_rows l doc)
 
-  pub behind_added : (doc : Doc) (m : LiveView) → IsAdded l doc m → IsBehind b (cs ++ added doc ∷ []) m
+  pub behind_added : (doc : Doc) (m : LiveView) → HasAdded l doc m → IsBehind b (cs ++ added doc ∷ []) m
   behind_added doc m a =
       let more = length-append cs (added doc ∷ []) in
       let changes = a.changes in
@@ -234,8 +234,8 @@ module _ (l : LiveView) (is : IsState l.state) (b : List ℕ) (stands : StandsFo
             ap (λ (k : Corpus). contains_key k.titles d) (c.corpus ∙ ap (λ (x : Changing). x.corpus) h.corpus)
             ∙ titled_there l.state.present ((image_of b).titles ++ l.state.added) d (titles_long l.state is b stands);
         full = λ doc.
-            let rows = ap (λ ds. length (met_by l b (ds ++ doc ∷ []))) c.additions ∙ rows_counted doc in
-            let vs = ap (λ ds. length (distinct_words (met_by l b (ds ++ doc ∷ [])))) c.additions ∙ ap length (words_counted doc) in
-            ap₂ (λ n m. room n m (length (distinct_words (met_by l b (s.additions ++ doc ∷ []))))) docs rows
+            let rows = ap (λ ds. length (rows_met l b (ds ++ doc ∷ []))) c.additions ∙ rows_counted doc in
+            let vs = ap (λ ds. length (distinct_words (rows_met l b (ds ++ doc ∷ [])))) c.additions ∙ ap length (words_counted doc) in
+            ap₂ (λ n m. room n m (length (distinct_words (rows_met l b (s.additions ++ doc ∷ []))))) docs rows
             ∙ ap (room (next_number l) (l.met + length (own_rows l doc))) vs;
       }
