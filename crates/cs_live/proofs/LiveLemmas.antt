@@ -204,10 +204,10 @@ module _ (l : LiveView) (k : IsLiveKept l) (doc : Doc) (a : IsOnlyDoc l.state.in
           few_words = few_words;
         }));
         counted = (let counted = k.counted in
-        let all = ap₂ (λ a ps. a + count_by not ps) (ap (λ (s : StateView). length s.added) state ∙ length-append l.state.added (t ∷ []))
-        (ap (λ (s : StateView). s.present) state) in
-        let same = there_more l.state.present in
-        omega (arith, changes, counted, all, same));
+            let all = ap₂ (λ a ps. a + count_by not ps) (ap (λ (s : StateView). length s.added) state ∙ length-append l.state.added (t ∷ []))
+            (ap (λ (s : StateView). s.present) state) in
+            let same = there_more l.state.present in
+            omega (arith, changes, counted, all, same));
         fresh = inr (ap (λ (x : AnswerList). x.entries) none_a, none_h);
         answers = empty_kept m.state m.answers n none_a;
         held = empty_held m.state m.held none_h;
@@ -264,10 +264,10 @@ module _ (l : LiveView) (k : IsLiveKept l) (d : ℕ) (s : StateView) (h : IsSett
           few_words = live.few_words;
         }));
         counted = (let counted = k.counted in
-        let all = ap₂ (λ a ps. a + count_by not ps) (ap (λ (x : StateView). length x.added) state ∙ ap length h.added) (ap (λ (x : StateView). x.present) state) in
-        let more = gone_more s.present d there in
-        let same = ap (count_by not) h.present in
-        omega (arith, changes, counted, all, more, same));
+            let all = ap₂ (λ a ps. a + count_by not ps) (ap (λ (x : StateView). length x.added) state ∙ ap length h.added) (ap (λ (x : StateView). x.present) state) in
+            let more = gone_more s.present d there in
+            let same = ap (count_by not) h.present in
+            omega (arith, changes, counted, all, more, same));
         fresh = inl rows;
         answers = empty_kept m.state m.answers n none_a;
         held = empty_held m.state m.held none_h;

@@ -20,7 +20,7 @@ ghost use Rattle.cs_live.specs.declared.fault.RemoveFault.TheVariants as removal
 
 use crate::adding::{Addition, addition_of, put_document};
 use crate::asking::ask_state;
-use crate::facts::{is_present, has_room, numbers_given, index_weights};
+use crate::facts::{has_room, index_weights, is_present, numbers_given};
 use crate::fault::{AddFault, RemoveFault};
 use crate::settling::bring_in;
 use crate::state::{State, rows_of_index};

@@ -92,8 +92,8 @@ invariant_of-self-2 c =
     let long = c.len-2.ensures in
     let same = c.len.ensures in
     added_kept l kept c.args.doc (accepted c) (after c) c.in_ok-title.field-0.title c.self.inside.answers.capacity c.in_ok-title.ensures.ok.title c.in_ok-put_document.ensures.state (rows_are c)
-      (ap (λ n. c.self.inside.met + n) own) refl (none c) c.forget.ensures.held
-      (omega (arith, few, number)) c.in_ok-title.ensures.ok.text (omega (arith, rows, few_rows, own, long, same)) (words_fit c)
+    (ap (λ n. c.self.inside.met + n) own) refl (none c) c.forget.ensures.held
+    (omega (arith, few, number)) c.in_ok-title.ensures.ok.text (omega (arith, rows, few_rows, own, long, same)) (words_fit c)
 
 added_here : (c : goal.After-forget) → HasAdded (before c) c.args.doc (after c)
 added_here c =

@@ -30,7 +30,7 @@ removed_here c =
 pub invariant_of-self-2 : goal.invariant_of-self-2
 invariant_of-self-2 c =
     removed_kept (before c) c.self.invariant c.args.doc c.bring_in.new.state c.in_ok-settle.ensures.ok (after c) c.self.inside.answers.capacity c.remove.ensures c.in_ok-settle.ensures.none refl refl (none c)
-      c.forget.ensures.held (sym c.is_present.ensures ∙ c.if-not-is_present.false)
+    c.forget.ensures.held (sym c.is_present.ensures ∙ c.if-not-is_present.false)
 
 pub returns-clause-removed : goal.returns-clause-removed
 returns-clause-removed c = subst (λ v. IsRemoved v c.args.doc (after c)) c.self.view_is (removed_here c)
