@@ -9,26 +9,26 @@
 --   has_document l d        a number is that of a document
 --   rows_now l b            of the bytes of the index, all rows
 --   changing l b            the corpus now, with the next number
---   rows_met l b docs         of the bytes of the index, the rows of the index and of these documents, which were added
+--   rows_met l b docs       of the bytes of the index, the rows of the index and of these documents, which were added
 --   IsBehind b cs l         the corpus now, and all that is counted, is that of the bytes after the changes cs
 --   IsStateOf b l s         the state s of a live corpus is that of the index under changes
---   IsOnlyDoc w doc        a document that is read of a collection with these weights, and the only one there
+--   IsOnlyDoc w doc         a document that is read of a collection with these weights, and the only one there
 --   own_rows l doc          its rows under the next number
 --   full_now l doc          what there is no room for where the document is added; None where it may be
---   full_of e, NamesFull l doc e      the refusal that a fault names is this one; want of memory names none
+--   full_of e, NamesFull l doc e     the refusal that a fault names is this one; want of memory names none
 --   AreGoodNow b l          what is kept and held is that of the corpus now
 --   IsAfterNow k q l r new  what is kept after a reply, of a corpus
 --   most_held               how many bytes what is held of ranges of words has at most
 --   IsSettled s waited new  a state, and rows that waited brought into it
 --   IsGoodRow w r           a row that an index file may have
 --   AreWaiting s rows       rows of added documents, behind all that a state has in memory
---   IsLiveState s rows met       what always holds of a state and these rows
+--   IsLiveState s rows met  what always holds of a state and these rows
 --   IsAddition w n doc a, HasTooManyRows w doc e     what is added of a document, and why its rows can't be
 --   IsFresh rows a held     nothing is kept and held while rows wait
---   IsLiveKept l                what always holds of an index under changes
---   HasAdded l doc new       what an addition leaves
+--   IsLiveKept l            what always holds of an index under changes
+--   HasAdded l doc new      what an addition leaves
 --   IsRemoved l d new       what a deletion leaves
---   CountsChanges l             each change added a number or took one away
+--   CountsChanges l         each change added a number or took one away
 use Rattle.std.specs.Prelude.{◌≡◌, ◌⊎◌, ℕ, ◌+◌, ◌*◌, ◌^◌, ◌≤◌, ◌<◌, Bool, not, true, false, nat_le, nat_lt, List, [], ◌∷◌, ◌++◌, length, count_by, fold, map, slice_index_or, All, MatchOption}
 use Rattle.std.specs.Prelude.{Option, None, Some, Result}
 use Rattle.std.specs.FinMap as map

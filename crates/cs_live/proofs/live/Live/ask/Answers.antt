@@ -9,8 +9,8 @@ use Rattle.cs_live.proofs.live.Live.ask.Goals as goal
 pub invariant_of-self-2 : goal.invariant_of-self-2
 invariant_of-self-2 g c =
     let kept = c.self.invariant in
-    let settled = c.in_ok-settle.ensures.ok in
-    let none = c.in_ok-settle.ensures.none in
+    let settled = c.in_ok-bring_in.ensures.ok in
+    let none = c.in_ok-bring_in.ensures.none in
     let l : LiveView = record { state = c.self.inside.state; rows = c.self.inside.rows.items; met = c.self.inside.met; changes = c.self.inside.changes; answers = c.self.inside.answers; held = c.self.inside.held } in
     record {
       live = subst (λ rs. IsLiveState c.bring_in.new.state rs c.self.inside.met) (sym none) (settled_live l kept c.bring_in.new.state settled);
@@ -23,7 +23,7 @@ invariant_of-self-2 g c =
 pub returns-clause-good : goal.returns-clause-good
 returns-clause-good g c b told_is stands good =
     let l : LiveView = record { state = c.self.inside.state; rows = c.self.inside.rows.items; met = c.self.inside.met; changes = c.self.inside.changes; answers = c.self.inside.answers; held = c.self.inside.held } in
-    let settled = c.in_ok-settle.ensures.ok in
+    let settled = c.in_ok-bring_in.ensures.ok in
     let here : StandsFor b l.state.index = subst (λ (v : LiveView). StandsFor b v.state.index) (sym c.self.view_is) stands in
     let there : StandsFor b c.bring_in.new.state.index = subst (StandsFor b) (sym settled.index) here in
     (c.ask_state.ensures.told b told_is there (settled_good l c.self.invariant c.bring_in.new.state settled b (subst (AreGoodNow b) (sym c.self.view_is) good))).good
@@ -32,8 +32,8 @@ pub returns-clause-behind : goal.returns-clause-behind
 returns-clause-behind g c b cs stands behind =
     let l : LiveView = record { state = c.self.inside.state; rows = c.self.inside.rows.items; met = c.self.inside.met; changes = c.self.inside.changes; answers = c.self.inside.answers; held = c.self.inside.held } in
     let m : LiveView = record { state = c.bring_in.new.state; rows = c.bring_in.new.rows.items; met = c.self.inside.met; changes = c.self.inside.changes; answers = c.ask_state.new.answers; held = c.ask_state.new.held } in
-    let settled = c.in_ok-settle.ensures.ok in
-    let none = c.in_ok-settle.ensures.none in
+    let settled = c.in_ok-bring_in.ensures.ok in
+    let none = c.in_ok-bring_in.ensures.none in
     let kept = c.self.invariant in
     let here : StandsFor b l.state.index = subst (λ (v : LiveView). StandsFor b v.state.index) (sym c.self.view_is) stands in
     behind_settled l kept.live.state b here cs (subst (IsBehind b cs) (sym c.self.view_is) behind) c.bring_in.new.state settled m refl none refl refl

@@ -24,12 +24,12 @@ none c = c.forget.ensures.answers
 
 removed_here : (c : goal.After-forget) → IsRemoved (before c) c.args.doc (after c)
 removed_here c =
-    is_removed (before c) c.self.invariant c.args.doc c.bring_in.new.state c.in_ok-settle.ensures.ok (after c) c.self.inside.answers.capacity c.remove.ensures c.in_ok-settle.ensures.none refl refl (none c)
+    is_removed (before c) c.self.invariant c.args.doc c.bring_in.new.state c.in_ok-bring_in.ensures.ok (after c) c.self.inside.answers.capacity c.remove.ensures c.in_ok-bring_in.ensures.none refl refl (none c)
     c.forget.ensures.held refl
 
 pub invariant_of-self-2 : goal.invariant_of-self-2
 invariant_of-self-2 c =
-    removed_kept (before c) c.self.invariant c.args.doc c.bring_in.new.state c.in_ok-settle.ensures.ok (after c) c.self.inside.answers.capacity c.remove.ensures c.in_ok-settle.ensures.none refl refl (none c)
+    removed_kept (before c) c.self.invariant c.args.doc c.bring_in.new.state c.in_ok-bring_in.ensures.ok (after c) c.self.inside.answers.capacity c.remove.ensures c.in_ok-bring_in.ensures.none refl refl (none c)
     c.forget.ensures.held (sym c.is_present.ensures ∙ c.if-not-is_present.false)
 
 pub returns-clause-removed : goal.returns-clause-removed
