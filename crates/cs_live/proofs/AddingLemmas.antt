@@ -6,19 +6,14 @@
 --   titled_posts    its posts stay
 --   waiting_more    rows that wait, and those of the document behind them
 --   rows_more       all rows with those of the document
-use Rattle.std.proofs.Common.{◌≡◌, ℕ, zero, suc, take, drop, ◌+◌, ◌<◌, ◌≤◌, ◌&&◌, ◌||◌, Bool, true, false, cond, List, [], ◌∷◌, ◌++◌, length, get_or, map, Option, Some, None, refl, sym, ap, ap₂, subst, ◌∙◌, arith, append-nil, append_assoc, length-append}
-use Rattle.std.specs.Prelude.{All, filter, fold}
-use Rattle.std.specs.List.{AllByRecursion, enumerate_from, list_any}
+use Rattle.std.proofs.Common.{◌≡◌, ℕ, zero, suc, take, drop, ◌+◌, ◌<◌, ◌≤◌, ◌||◌, Bool, true, false, List, [], ◌∷◌, ◌++◌, length, get_or, map, refl, sym, ap, subst, ◌∙◌, arith, length-append}
+use Rattle.std.specs.Prelude.{All}
+use Rattle.std.specs.List.{AllByRecursion, list_any}
 use Rattle.std.specs.List.Sorted.{IsStrictlySortedBy}
-use Rattle.std.specs.Ordering.{eq_by_cmp, nat_cmp, ordering_then}
-use Rattle.std.specs.Cmp.Lexicographic.{slice_cmp}
+use Rattle.std.specs.Ordering.{eq_by_cmp}
 use Rattle.std.specs.Str.{is_utf8}
-use Rattle.std.specs.declared.cmp.Ordering.TheVariants.{Less}
-use Rattle.std.specs.FinMap.{find, from_entries, from_entries_push, insert, nat_cmp-IsAntisymmetric}
-use Rattle.std.proofs.lemmas.Bool.Decides.{nat_tests}
-use Rattle.std.proofs.lemmas.Cmp.{nat_cmp_total}
-use Rattle.std.proofs.lemmas.List.{get_or_append_left, length-map, map-append}
-use Rattle.std.proofs.lemmas.List.Elements.{All-append, All-filter, All-from_recursion, All-map, All-weaker, recursion_from_All}
+use Rattle.std.proofs.lemmas.List.{get_or_append_left}
+use Rattle.std.proofs.lemmas.List.Elements.{All-append, All-from_recursion, All-map, All-weaker, recursion_from_All}
 use Rattle.std.proofs.lemmas.List.Folds.{list_any-append}
 use Rattle.std.proofs.lemmas.Str.{is_utf8-from_IsUtf8}
 use Rattle.cs_base.specs.content.Members.{members_in}
@@ -28,31 +23,21 @@ use Rattle.cs_base.specs.declared.content.doc.Post.{Post}
 use Rattle.cs_base.specs.declared.content.doc.Row.{Row}
 use Rattle.cs_base.specs.declared.content.limits.TheConstants.{MAX_DOCS}
 use Rattle.cs_base.specs.declared.content.scores.Weights.{Weights}
-use Rattle.cs_base.specs.declared.content.scores.TheConstants.{BEHIND_TITLE}
-use Rattle.cs_base.proofs.ListsLemmas.{any_through, filter_alike}
+use Rattle.cs_base.proofs.ListsLemmas.{filter_alike}
 use Rattle.cs_base.proofs.MembersLemmas.{all_then, members_are}
-use Rattle.cs_base.proofs.OrdersLemmas.{Less-from_lt, by_row_exact, by_row_total, rows_up}
+use Rattle.cs_base.proofs.OrdersLemmas.{by_row_exact, by_row_total, rows_up}
 use Rattle.cs_build.specs.Building.{KeepLimits}
 use Rattle.cs_build.proofs.RowLemmas.{keep_limits}
-use Rattle.cs_docs.proofs.ListingLemmas.{docs-below, spots-rise}
 use Rattle.cs_engine.specs.IndexReading.{IsWithin, stock_of}
 use Rattle.cs_engine.specs.Sources.{IsIn, is_there}
 use Rattle.cs_engine.proofs.CountingLemmas.{stock_within}
 use Rattle.cs_file.specs.Indexes.{StandsFor}
-use Rattle.cs_model.specs.Collection.{documents, facet_words, weights}
-use Rattle.cs_model.specs.Corpus.{Corpus, by_number, doc_rows, facet_rows, placed, rows_of, text_rows, title_of, title_rows}
-use Rattle.cs_model.specs.Words.{words}
-use Rattle.cs_model_changes.specs.Changes.{Change, Changing, added, applied, started}
+use Rattle.cs_model.specs.Collection.{documents}
+use Rattle.cs_model.specs.Corpus.{doc_rows, rows_of, title_of}
 use Rattle.cs_model_changes.specs.Joined.{later_row}
-use Rattle.cs_model_changes.proofs.JoinedLemmas.{numbered}
-use Rattle.cs_model_index.specs.BlockRules.{is_scored}
-use Rattle.cs_model_index.specs.FileRules.{is_word}
-use Rattle.cs_model_index.specs.Numbered.{post_of, row_of, rows_at}
-use Rattle.cs_model_index.specs.Partitions.{is_facet}
-use Rattle.cs_model_index.specs.Sections.{file_corpus}
-use Rattle.cs_model_index.proofs.Listings.{any_listed}
+use Rattle.cs_model_index.specs.Numbered.{row_of, rows_at}
 use Rattle.cs_model_index.proofs.ReadRows.{rows_rise}
-use Rattle.cs_live.specs.Lives.{AreWaiting, IsOnlyDoc, IsGoodRow, LiveView, changing, rows_now}
+use Rattle.cs_live.specs.Lives.{AreWaiting, IsOnlyDoc, IsGoodRow}
 use Rattle.cs_live.specs.States.{IsState, StateView, now_posts, renumbered, source_now, stock_now, with_title}
 use Rattle.cs_live.proofs.NowLemmas.{all_now}
 use Rattle.cs_live.proofs.AddedRows.{all_map, own_any, own_docs, own_spots, spots_behind}

@@ -4,9 +4,9 @@
 --   behind_settled    rows that waited brought in
 --   behind_added, behind_removed      one change more
 --   state_is          the live corpus behind changes
-use Rattle.std.proofs.Common.{◌≡◌, ℕ, zero, suc, ◌+◌, ◌<◌, ◌≤◌, Bool, true, List, [], ◌∷◌, ◌++◌, length, get_or, map, refl, sym, ap, ap₂, subst, ◌∙◌, arith, append-nil, length-append}
-use Rattle.std.specs.Prelude.{All, filter, flat_map, fold, nat_le, nat_lt, Option}
-use Rattle.std.specs.List.{AllByRecursion, enumerate_from, sum_by}
+use Rattle.std.proofs.Common.{◌≡◌, ℕ, suc, ◌+◌, ◌<◌, true, List, [], ◌∷◌, ◌++◌, length, get_or, refl, sym, ap, ap₂, subst, ◌∙◌, arith, append-nil, length-append}
+use Rattle.std.specs.Prelude.{fold, nat_le, nat_lt, Option}
+use Rattle.std.specs.List.{enumerate_from, sum_by}
 use Rattle.std.specs.Cmp.Lexicographic.{slice_cmp}
 use Rattle.std.specs.Ordering.{nat_cmp}
 use Rattle.std.specs.FinMap.{contains_key, len, len-entries}
@@ -19,7 +19,6 @@ use Rattle.std.proofs.lemmas.Map.Lookups.{exact_bytes}
 use Rattle.cs_base.specs.content.Members.{members_in}
 use Rattle.cs_base.specs.declared.content.doc.Doc.{Doc}
 use Rattle.cs_base.specs.declared.content.doc.Post.{Post}
-use Rattle.cs_base.specs.declared.content.doc.Row.{Row}
 use Rattle.cs_base.specs.declared.content.limits.TheConstants.{MAX_DOCS, MAX_ROWS, MAX_WORDS}
 use Rattle.cs_base.specs.declared.content.scores.Weights.{Weights}
 use Rattle.cs_base.proofs.ListsLemmas.{all_stay}
@@ -27,11 +26,11 @@ use Rattle.cs_base.proofs.MembersLemmas.{listed_itself}
 use Rattle.cs_build.proofs.CollectionFiles.{blocks_accepted, blocks_read}
 use Rattle.cs_engine.specs.IndexReading.{IsWithin, stock_of}
 use Rattle.cs_engine.specs.Sources.{all_rows, source_of}
-use Rattle.cs_engine.specs.Stocked.{IsKnown, corpus_in}
+use Rattle.cs_engine.specs.Stocked.{IsKnown}
 use Rattle.cs_engine.proofs.CountingLemmas.{stock_within}
 use Rattle.cs_engine.proofs.OpenedLemmas.{opened_told}
 use Rattle.cs_engine.proofs.StockLemmas.{docs_are, stock_corpus, stocked, words_are}
-use Rattle.cs_file.specs.Indexes.{IndexView, IsIndex, StandsFor, block_posts}
+use Rattle.cs_file.specs.Indexes.{IndexView, IsIndex, StandsFor}
 use Rattle.cs_file.proofs.StoodLemmas.{stood_block, stood_count}
 use Rattle.cs_model.specs.Corpus.{Corpus, by_number, distinct_words}
 use Rattle.cs_model.specs.First.{first_reason, unless}

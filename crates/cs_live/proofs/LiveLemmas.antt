@@ -4,9 +4,9 @@
 --   settled_*         rows that waited brought in: what is kept and held stays right
 --   added_*           a document that is added
 --   removed_*         a document that is deleted
-use Rattle.std.proofs.Common.{◌≡◌, ℕ, zero, suc, ◌+◌, ◌-◌, ◌<◌, ◌≤◌, Bool, true, false, true≢false, cond, not, List, [], ◌∷◌, ◌++◌, length, get_or, set, map, replicate}
+use Rattle.std.proofs.Common.{◌≡◌, ℕ, zero, suc, ◌+◌, ◌<◌, ◌≤◌, Bool, true, false, true≢false, cond, not, List, [], ◌∷◌, ◌++◌, length, get_or, set, replicate}
 use Rattle.std.proofs.Common.{refl, sym, ap, ap₂, subst, ◌∙◌, arith, append-nil, append_assoc, length-append, inl, inr}
-use Rattle.std.specs.Prelude.{All, count_by, filter, fold}
+use Rattle.std.specs.Prelude.{All, count_by, filter}
 use Rattle.std.specs.List.{IsDistinct, sum_by}
 use Rattle.std.specs.FinMap.{insert, remove}
 use Rattle.std.specs.Ordering.{nat_cmp}
@@ -20,27 +20,23 @@ use Rattle.std.proofs.lemmas.Map.Lookups.{exact_bytes}
 use Rattle.cs_base.specs.content.Members.{members_in}
 use Rattle.cs_base.specs.content.Orders.{by_row}
 use Rattle.cs_base.specs.declared.content.doc.Doc.{Doc}
-use Rattle.cs_base.specs.declared.content.doc.Post.{Post}
 use Rattle.cs_base.specs.declared.content.doc.Row.{Row}
 use Rattle.cs_base.specs.declared.content.limits.TheConstants.{MAX_DOCS, MAX_ROWS, MAX_WORDS}
-use Rattle.cs_base.specs.declared.content.scores.Weights.{Weights}
 use Rattle.cs_cache.specs.AnswerList.{AnswerList, answer_list}
 use Rattle.cs_engine.specs.HeldRanges.{AreHeldOver, FitsRange}
 use Rattle.cs_engine.specs.Keeping.{AreGoodFor, HoldsGood, IsKeptEntry, KeepsFitting, engine_with}
 use Rattle.cs_engine.specs.Sources.{seen}
 use Rattle.cs_engine.specs.Stocked.{corpus_in}
-use Rattle.cs_engine.specs.IndexReading.{stock_of}
 use Rattle.cs_engine.specs.declared.held.HeldRange.{HeldRange}
 use Rattle.cs_file.specs.Indexes.{IndexView, IsIndex, StandsFor}
 use Rattle.cs_model.specs.Answers.{in_doc}
-use Rattle.cs_model.specs.Corpus.{Corpus, doc_rows, rows_of}
+use Rattle.cs_model.specs.Corpus.{Corpus, doc_rows}
 use Rattle.cs_model_kept.specs.KeptList.{GoodFor, IsOwn}
 use Rattle.cs_model_changes.specs.Changes.{Change, Changing, added, applied, deleted, now}
-use Rattle.cs_model_changes.specs.Joined.{later_row}
 use Rattle.cs_model_index.specs.Numbered.{rows_at}
 use Rattle.cs_model_index.specs.Sections.{file_corpus, image_of}
 use Rattle.cs_model_index.proofs.Listings.{listed_few}
-use Rattle.cs_live.specs.Lives.{AreGoodNow, AreWaiting, IsOnlyDoc, HasAdded, IsBehind, IsFresh, IsLiveKept, IsLiveState, IsRemoved, IsSettled, LiveView, changing, next_number, own_rows}
+use Rattle.cs_live.specs.Lives.{AreGoodNow, IsOnlyDoc, HasAdded, IsBehind, IsLiveKept, IsLiveState, IsRemoved, IsSettled, LiveView, changing, own_rows}
 use Rattle.cs_live.specs.Settling.{words_met}
 use Rattle.cs_live.specs.States.{IsState, StateView, opened_state, source_now, stock_now, titles_now, with_title, without_doc}
 use Rattle.cs_live.proofs.AddingLemmas.{rows_more, titled_is, titled_posts, waiting_more}

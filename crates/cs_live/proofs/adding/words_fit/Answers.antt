@@ -1,4 +1,4 @@
-use Rattle.std.proofs.Common.{◌≡◌, ◌∙◌, ◌++◌, ◌+◌, ◌≤◌, List, ℕ, ap, subst, sym, length, nat_le, arith}
+use Rattle.std.proofs.Common.{◌∙◌, ◌++◌, ◌≤◌, ap, subst, sym, length, nat_le, arith}
 use Rattle.std.proofs.lemmas.Bool.{le-leb}
 use Rattle.std.proofs.lemmas.List.{length-append}
 use Rattle.cs_base.specs.declared.content.limits.TheConstants.{MAX_WORDS}

@@ -1,12 +1,11 @@
-use Rattle.std.proofs.Common.{◌≡◌, ℕ, ◌+◌, ◌≤◌, ◌<◌, ◌++◌, ◌∷◌, [], true, false, not, nat_le, length, map, refl, sym, ap, ap₂, subst, ◌∙◌, arith}
-use Rattle.std.specs.Prelude.{count_by}
+use Rattle.std.proofs.Common.{◌≡◌, ℕ, ◌+◌, ◌≤◌, ◌++◌, ◌∷◌, [], true, not, nat_le, length, map, refl, sym, ap, ap₂, subst, ◌∙◌, arith}
 use Rattle.std.proofs.lemmas.Bool.Decides.{nat_tests}
 use Rattle.std.proofs.lemmas.List.Sums.{count_by-le-length}
-use Rattle.cs_base.specs.declared.content.limits.TheConstants.{MAX_DOCS, MAX_ROWS, MAX_WORDS}
-use Rattle.cs_cache.specs.AnswerList.{AnswerList, answer_list}
+use Rattle.cs_base.specs.declared.content.limits.TheConstants.{MAX_WORDS}
+use Rattle.cs_cache.specs.AnswerList.{answer_list}
 use Rattle.cs_model.specs.Corpus.{rows_of}
 use Rattle.cs_model_changes.specs.Joined.{later_row}
-use Rattle.cs_live.specs.Lives.{IsOnlyDoc, HasAdded, IsBehind, IsLiveKept, LiveView, own_rows}
+use Rattle.cs_live.specs.Lives.{IsOnlyDoc, HasAdded, IsLiveKept, LiveView, own_rows}
 use Rattle.cs_live.specs.Settling.{HaveWordSize, words_met}
 use Rattle.cs_live.proofs.AddingLemmas.{own_good}
 use Rattle.cs_live.proofs.ChangedLemmas.{behind_added}

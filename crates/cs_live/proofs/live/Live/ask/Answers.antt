@@ -1,7 +1,7 @@
-use Rattle.std.proofs.Common.{◌≡◌, ◌+◌, [], not, length, refl, sym, ap, ap₂, subst, ◌∙◌, inl}
+use Rattle.std.proofs.Common.{◌+◌, not, length, refl, sym, ap₂, subst, ◌∙◌, inl}
 use Rattle.std.specs.Prelude.{count_by}
 use Rattle.cs_file.specs.Indexes.{StandsFor}
-use Rattle.cs_live.specs.Lives.{AreGoodNow, IsBehind, IsLiveKept, IsLiveState, LiveView}
+use Rattle.cs_live.specs.Lives.{AreGoodNow, IsBehind, IsLiveState, LiveView}
 use Rattle.cs_live.proofs.ChangedLemmas.{behind_settled}
 use Rattle.cs_live.proofs.LiveLemmas.{settled_good, settled_live, settled_same}
 use Rattle.cs_live.proofs.live.Live.ask.Goals as goal

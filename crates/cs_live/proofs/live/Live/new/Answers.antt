@@ -1,5 +1,4 @@
-use Rattle.std.proofs.Common.{ap, refl, subst}
-use Rattle.cs_cache.specs.AnswerList.{AnswerList}
+use Rattle.std.proofs.Common.{refl, subst}
 use Rattle.cs_file.specs.Indexes.{IsIndex}
 use Rattle.cs_live.specs.Lives.{LiveView}
 use Rattle.cs_live.proofs.ChangedLemmas.{begins}

@@ -1,5 +1,5 @@
-use Rattle.std.proofs.Common.{◌≡◌, ◌+◌, ◌++◌, ◌∷◌, [], true, false, get_or, refl, sym, ap, subst, ◌∙◌}
-use Rattle.cs_cache.specs.AnswerList.{AnswerList, answer_list}
+use Rattle.std.proofs.Common.{◌≡◌, ◌+◌, [], refl, sym, subst, ◌∙◌}
+use Rattle.cs_cache.specs.AnswerList.{answer_list}
 use Rattle.cs_live.specs.Lives.{IsLiveKept, IsRemoved, LiveView}
 use Rattle.cs_live.proofs.ChangedLemmas.{behind_removed}
 use Rattle.cs_live.proofs.LiveLemmas.{empty_good, is_removed, removed_kept}
