@@ -141,6 +141,11 @@ fn are_the_first(rt: &impl Abort, hits: &[HitShown], row: &str) {
 // That each facet is the second one, with no word.
 fn are_bare(rt: &impl Abort, facets: &[FacetShown], row: &str) {
     for facet in facets {
-        same(rt, &(facet.name.as_str(), facet.table.len()), &("y", 0), row);
+        same(
+            rt,
+            &(facet.name.as_str(), facet.table.len()),
+            &("y", 0),
+            row,
+        );
     }
 }
