@@ -1,9 +1,12 @@
 pub mod AnswerLemmas
 pub mod AnsweredLemmas
 pub mod BuildLemmas
+pub mod ChangeLines
 pub mod CompleteLemmas
 pub mod CommandLineExamples
 pub mod LineTexts
+pub mod LiveLemmas
+pub mod LiveTextsApart
 pub mod MemoryText
 pub mod OverLemmas
 pub mod PutTextLemmas

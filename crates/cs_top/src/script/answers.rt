@@ -102,9 +102,9 @@ fn put_answer<O: Sink>(out: &mut O, answer: &Answer) -> Result<WhatCame, ScriptS
     }
 }
 
-// The text in a line's place where memory ran out, with its line ending.
+/// The text in a line's place where memory ran out, with its line ending.
 #[tactic(auto, using(crate::proofs::MemoryText::memory_line))]
-fn memory_line() -> &'static [u8]
+pub(crate) fn memory_line() -> &'static [u8]
     ensures { result.now ≡ memory_text ++ 10 ∷ [] }
 {
     b"{\"error\":\"memory\"}\n"
@@ -169,12 +169,34 @@ fn answer_request<F: Files>(
     ensures changed { IsChangeLine engine.old.index (bytes_there file.old (F.held files.old)) result }
     ensures over { StaysOver engine.old engine.new file.old file.new (F.held files.old) (F.held files.new) }
 {
+<<<<<<< HEAD
+    answer_by(showing, outcome_over(showing.alloc, engine, file, files, line))
+}
+
+/// Puts what came of parameters for the line that has them, and says what came of the line.
+pub(crate) fn put_outcome_of<O: Sink>(
+    showing: &Showing<'_>,
+    outcome: RequestOutcome,
+    out: &mut O,
+) -> Result<WhatCame, ScriptStop> {
+    let answer = answer_by(showing, outcome);
+    put_answer(out, &answer)
+}
+
+// What is put where this came of parameters.
+fn answer_by(showing: &Showing<'_>, outcome: RequestOutcome) -> Answer {
+    match outcome {
+        RequestOutcome::Refused(fault) => text_or_memory(refusal_line(showing.alloc, fault)),
+        RequestOutcome::Replied(wanted, reply) => {
+            text_or_memory(reply_line(showing, &wanted.query, &reply))
+=======
     match respond(showing.alloc, engine, file, files, wanted) {
         Ok((reply, _)) => text_or_memory(reply_line(showing, &wanted.query, &reply)),
         Err(AskFault::Memory) => Answer::Memory,
         Err(AskFault::Read) => Answer::Read,
         Err(AskFault::Changed { rule, at }) => {
             Answer::Changed(changed_line(showing.alloc, rule, at))
+>>>>>>> aa83beb2
         }
     }
 }
