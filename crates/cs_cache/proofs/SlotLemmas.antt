@@ -4,17 +4,20 @@
 --   fresh_slot      one more empty slot in front
 --   refilled        an entry put over the last slot
 --   found_last      the last slot is found under its number
+--   last_emptied    nothing put over the last slot
+--   emptied_more    one more empty slot in front
+--   emptied         empty slots stand for no entries
 --   moved           a slot put in front
 --   unmoved         where no slot has the key the list stays as it is
 --   at_key, find_more       the looking for the slot of a key, step by step
-use Rattle.std.proofs.Common.{◌≡◌, ℕ, ◌+◌, ◌-◌, ◌<◌, ◌≤◌, true, false, nat_eq, List, [], ◌∷◌, ◌++◌, length, take, Option, Some, None, IsSome, option_map, refl, sym, ap, subst, ◌∙◌, arith, length-append, append-nil}
+use Rattle.std.proofs.Common.{◌≡◌, ℕ, suc, ◌+◌, ◌-◌, ◌<◌, ◌≤◌, true, false, nat_eq, List, [], ◌∷◌, ◌++◌, length, take, Option, Some, None, IsSome, option_map, refl, sym, ap, subst, ◌∙◌, arith, length-append, append-nil}
 use Rattle.std.specs.Cmp.{nat_eq_equiv}
 use Rattle.std.specs.List.{AllByRecursion, IsDistinct}
 use Rattle.std.specs.Map.{keys_of, lookup, lookup_entry, remove_entry}
 use Rattle.std.specs.Str.{bytes_eq}
 use Rattle.std.proofs.Math.Seq.{take-append_seam}
 use Rattle.std.proofs.lemmas.Bool.Decides.{nat_tests}
-use Rattle.std.proofs.lemmas.List.{take_all}
+use Rattle.std.proofs.lemmas.List.{length-take, take-take, take_all}
 use Rattle.std.proofs.lemmas.List.Elements.{filter_map-append}
 use Rattle.cs_base.specs.declared.content.doc.Post.{Post}
 use Rattle.cs_model_kept.specs.Entries.{EntryOf}
@@ -23,7 +26,7 @@ use Rattle.cs_model_kept.proofs.KeptListLemmas.{front_distinct, keys, put_distin
 use Rattle.lru.specs.LruCache.{lru_cache, put_entries, promoted, last_entry}
 use Rattle.lru.proofs.Splits.{cut_last, last_from}
 use Rattle.lru.proofs.Pairs.{last_of_push, lookup-lookup_entry}
-use Rattle.cs_cache.specs.Slots.{Slot, entries_in, has_key, IsEmptyLast, AreSlots}
+use Rattle.cs_cache.specs.Slots.{Slot, entries_in, has_key, IsEmptyLast, AreSlots, IsLastEmptied}
 use Rattle.cs_cache.proofs.FrontLemmas.{find-cons, front_cut, front_none, take_first}
 
 abbrev Kept : Type 0
@@ -146,6 +149,33 @@ found_last es k v last d =
     rw at
     in
     subst P (sym cut.1) at_cut d
+
+-- ---- slots that are emptied
+pub last_emptied : (es : List Slot) (n k : ℕ) (v : Option Kept) → last_entry es ≡ Some (k, v) → IsDistinct nat_eq (keys_of es) → put_entries nat_eq (lru_cache es n) k None ≡ (k, None) ∷ take (length es - 1) es
+last_emptied es n k v last d =
+    let cut = last_cut es (k, v) last in
+    let P : List Slot → Type 0 = λ xs. IsDistinct nat_eq (keys_of xs) → put_entries nat_eq (lru_cache xs n) k None ≡ (k, None) ∷ take (length xs - 1) xs in
+    let front : length (cut.0 ++ (k, v) ∷ []) - 1 ≡ length cut.0 = omega (arith, length-push cut.0 (k, v)) in
+    let others : cut.0 ≡ take (length (cut.0 ++ (k, v) ∷ []) - 1) (cut.0 ++ (k, v) ∷ []) = sym (ap (λ m. take m (cut.0 ++ (k, v) ∷ [])) front ∙ take-append_seam cut.0 ((k, v) ∷ [])) in
+    let at_cut : P (cut.0 ++ (k, v) ∷ []) = λ d'. let on = cut_found cut.0 k v [] d' in rw (on.0, on.1, append-nil cut.0) (ap (λ us. (k, None) ∷ us) others) in
+    subst P (sym cut.1) at_cut d
+
+pub emptied_more : (es new : List Slot) (i : ℕ) → IsLastEmptied es new → i < length es → entries_in (take i es) ≡ [] → entries_in (take (i + 1) new) ≡ []
+emptied_more es new i e less none =
+    let front : take (suc i) new ≡ (e.0, None) ∷ take i es = ap (take (suc i)) e.1 ∙ ap (λ us. (e.0, None) ∷ us) (take-take i (length es - 1) es (omega (arith, less))) in
+    let next : i + 1 ≡ suc i = omega arith in
+    ap (λ m. entries_in (take m new)) next ∙ ap entries_in front ∙ none
+
+pub emptied-length : (es new : List Slot) → IsLastEmptied es new → 1 ≤ length es → length new ≡ length es
+emptied-length es new e some = omega (arith, ap length e.1, length-take (length es - 1) es)
+
+none_last : (es : List Slot) → entries_in es ≡ [] → IsEmptyLast es
+none_last [] h = tt
+none_last ((k, None) ∷ es) h = h
+none_last ((k, Some e) ∷ es) h = (cc)
+
+pub emptied : (es : List Slot) (n : ℕ) → entries_in es ≡ [] → length es ≡ n → AreSlots es n
+emptied es n none count = empty_slots es n none (none_last es none) count
 
 -- ---- the slot of a key goes in front
 still_last : (us : List Slot) (k : ℕ) (e : Kept) (vs : List Slot) → IsEmptyLast (us ++ (k, Some e) ∷ vs) → IsEmptyLast (us ++ vs)

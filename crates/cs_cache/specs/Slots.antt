@@ -8,7 +8,8 @@
 --   IsEmptyLast slots    no slot behind an empty one holds an entry
 --   AreSlots slots n     there are n slots, the empty ones last, and no two hold one key
 --   IsSlotOf key slots n       the slot with the number n holds the first entry of this key
-use Rattle.std.specs.Prelude.{◌≡◌, ℕ, Bool, true, false, List, [], ◌∷◌, ◌++◌, length, map, Option, Some, None, MatchOption, ⊤}
+--   IsLastEmptied slots new    the last slot is emptied, and comes first
+use Rattle.std.specs.Prelude.{◌≡◌, ℕ, ◌-◌, Bool, true, false, List, [], ◌∷◌, ◌++◌, length, map, take, Option, Some, None, MatchOption, ⊤}
 use Rattle.std.specs.List.{IsDistinct, filter_map}
 use Rattle.std.specs.Str.{bytes_eq}
 use Rattle.cs_base.specs.declared.content.doc.Post.{Post}
@@ -44,3 +45,7 @@ abbrev pub IsSlotOf : List ℕ → List Slot → ℕ → Type 0
 IsSlotOf key slots n =
     (front : List Slot) × (e : List ℕ × EntryOf Post) × (back : List Slot) × (slots ≡ front ++ (n, Some e) ∷ back)
     × (found (entries_in front) key ≡ None) × (bytes_eq e.0 key ≡ true)
+
+-- the others stay in their order; there is one
+abbrev pub IsLastEmptied : List Slot → List Slot → Type 0
+IsLastEmptied slots new = (n : ℕ) × (new ≡ (n, None) ∷ take (length slots - 1) slots)

@@ -115,6 +115,13 @@ impl Answers {
         Kept::Kept
     }
 
+    /// No entries, and room for as many as before. No memory is taken.
+    pub fn clear(&mut self)
+        ensures { self.new ≡ answer_list [] self.old.capacity }
+    {
+        slots::empty(&mut self.slots);
+    }
+
     fn holds(&self, key: &Key) -> bool
         ensures { result ≡ is_held self.now.entries key.now }
     {

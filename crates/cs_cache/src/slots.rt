@@ -1,7 +1,7 @@
 //! The slots in which kept entries lie, and the looking for one by its key.
-ghost use Rattle.std.specs.Prelude.{◌≡◌, None, IfSome, IfNone, option_copied, option_map};
+ghost use Rattle.std.specs.Prelude.{◌≡◌, ◌≤◌, None, [], length, IfSome, IfNone, option_copied, option_map};
 ghost use Rattle.cs_model_kept.specs.KeptList.{found};
-ghost use Rattle.cs_cache.specs.Slots.{IsSlotOf, entries_in, has_key};
+ghost use Rattle.cs_cache.specs.Slots.{IsLastEmptied, IsSlotOf, entries_in, has_key};
 
 use crate::Entry;
 use cs_base::Key;
@@ -35,6 +35,36 @@ pub(crate) fn slot_of_key(slots: &Slots, key: &Key) -> Option<usize>
         }
     }
     None
+}
+
+/// Empties each slot, without taking memory.
+pub(crate) fn empty(slots: &mut Slots)
+    ensures entries { entries_in slots.new.entries ≡ [] }
+    ensures count { length slots.new.entries ≡ length slots.old.entries }
+    ensures capacity { slots.new.cap ≡ slots.old.cap }
+{
+    for _emptied in 0..slots.len() {
+        empty_last(slots);
+    }
+}
+
+// Empties the slot used longest ago, which comes to the front. It is written over, so that no memory is needed.
+fn empty_last(slots: &mut Slots)
+    requires some { 1 ≤ length slots.old.entries }
+
+    ensures emptied { IsLastEmptied slots.old.entries slots.new.entries }
+    ensures capacity { slots.new.cap ≡ slots.old.cap }
+{
+    // the count says that no two slots have one number
+    let _count = slots.len();
+    let Some((slot, _)) = slots.peek_lru() else {
+        unreachable!();
+    };
+    let slot = *slot;
+    match slots.put(slot, None) {
+        Ok(_) => (),
+        Err(_) => unreachable!(),
+    }
 }
 
 // The slot holds the entry of this key.

@@ -25,6 +25,7 @@ mod finding;
 mod gathering;
 mod held;
 mod hits;
+pub mod laws;
 mod note;
 mod opened;
 mod packing;

@@ -1,4 +1,5 @@
-//! Merged images: the image of the corpus in which those of two index files are joined, without their collections.
+//! Merged images: the image of the corpus in which those of two index files are joined, without their collections; and two vocabularies
+//! as one.
 //!
 //! What a merge is, and when it is refused, stands in `Merges` of `cs_model_merge`. Nothing here reads or writes a file.
 #![tactic(auto)]
@@ -10,3 +11,4 @@ mod vocabulary;
 
 pub use fault::MergeFault;
 pub use merging::merge;
+pub use vocabulary::{Merging, merged};

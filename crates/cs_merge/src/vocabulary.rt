@@ -13,17 +13,17 @@ use std::cmp::Ordering;
 
 /// Words that ascend, and where the first words of two vocabularies stand among them.
 #[derive(Debug, Drop)]
-pub(crate) struct Merging {
+pub struct Merging {
     /// The words.
-    pub(crate) words: Vec<Word>,
+    pub words: Vec<Word>,
     /// The number of each of the first words of the first vocabulary.
-    pub(crate) first: Vec<u32>,
+    pub first: Vec<u32>,
     /// The number of each of the first words of the second.
-    pub(crate) second: Vec<u32>,
+    pub second: Vec<u32>,
 }
 
 /// The words of two vocabularies, each once, and the number of each word of either among them.
-pub(crate) fn merged(alloc: Global, a: &Vocab, b: &Vocab) -> Result<Merging, Memory>
+pub fn merged(alloc: Global, a: &Vocab, b: &Vocab) -> Result<Merging, Memory>
     requires a_words { AreOfWordSize a.now }
     requires b_words { AreOfWordSize b.now }
 

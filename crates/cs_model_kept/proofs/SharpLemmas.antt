@@ -2,6 +2,7 @@
 --
 --   fewer                 of those that pass two tests there are no more than of those that pass one
 --   word_once             a word lies in at most one block
+--   part_less, last_less, facets_less      level by level
 --   sharp_less            the law
 --   skipped_rows          rows that lie within bounds where no document does are of none of these
 --   skipped_have_no_row   so a block that isn't read has none
@@ -198,18 +199,18 @@ module _ (v : Division) (is : IsDivided v) (ds : List ℕ) where
       let rest = mapped_less (sharp_of_linked v ds) (met_of_linked v) linked_less (out-Chain c).rest in
       omega (arith, first, rest, own)
 
-  part_less : (p : Part) → sharp_of_part v ds p ≤ met_of_part v p
+  pub part_less : (p : Part) → sharp_of_part v ds p ≤ met_of_part v p
   part_less p =
       let own : met_of_part v p ≡ sum (map (met_of_chain v) (out-Part p).chains) =
       fold_out-Part ℕ ℕ ℕ ℕ ℕ (atom_met v) chain_met linked_met part_met query_met p in
       let less = mapped_less (sharp_of_chain v ds) (met_of_chain v) chain_less (out-Part p).chains in
       omega (arith, less, own)
 
-  last_less : (p : Option Part) → sharp_of_last v ds p ≤ met_of_last v p
+  pub last_less : (p : Option Part) → sharp_of_last v ds p ≤ met_of_last v p
   last_less None = omega arith
   last_less (Some p) = part_less p
 
-  facets_less : (names : List (List ℕ)) → sharp_of_facets v ds names ≤ met_of_facets v names
+  pub facets_less : (names : List (List ℕ)) → sharp_of_facets v ds names ≤ met_of_facets v names
   facets_less names = mapped_less (λ n. sharp_of v ds (begins (named n []))) (λ n. met_prefix v (named n [])) (λ n. prefix_less v ds (named n [])) names
 
 by_less : (v : Division) → IsDivided v → (k : Corpus) (q : Query) (plan : Plan) → sharp_by v k q plan ≤ met_by v q plan

@@ -145,13 +145,13 @@ read_of s t (Some xs) (Some ys) true f e k r =
     (rows-some s xs w e n.1 ∙ ap (λ x. x ∷ records_behind w.1 (Some w.2)) (sym n.2) ∙ ap (λ more. f ∷ more) (sym left), λ h. (ap ends_at_end n.3 ∙ c.0, refl))
 read_of s t (Some xs) (Some ys) false f e k r = (rows-none s xs (none_read (next_record default_config s [] [] xs) f t ys r), λ h. cc)
 
-pub row_read : (a b : Reader (Bor (List ℕ))) (found : Bool) (f : List (List ℕ)) → StandsBetween a → ReadRecord (λ (s : Bor (List ℕ)). Some s.now) a b found f → took_first b ≡ true → Reads a b found f
-row_read a b found f s r first =
+pub row_read : (a b : Reader (Bor (List ℕ))) (found : Bool) (f : List (List ℕ)) → StandsBetween a → ReadRecord (λ (s : Bor (List ℕ)). Some s.now) a b found f → took_first b ≡ true → b.flexible ≡ a.flexible → Reads a b found f
+row_read a b found f s r first alike =
     let p = read_of a.state b.state (bytes_left a) (pending_of (Some b.rdr.now) b) found f s.between s.known (rw s.config at r.0) in
     let same : bytes_left b ≡ pending_of (Some b.rdr.now) b = rw r.1 refl in
     record {
       left = rw same p.0;
-      stands = λ h. record { trim = r.3 ∙ s.trim; ready = inl first; config = r.2 ∙ s.config; between = (p.1 h).0; known = rw same (p.1 h).1 };
+      stands = λ h. record { trim = r.3 ∙ s.trim; flexible = alike ∙ s.flexible; ready = inl first; config = r.2 ∙ s.config; between = (p.1 h).0; known = rw same (p.1 h).1 };
     }
 
 -- a reader that has just been made

@@ -4,7 +4,7 @@
 --   records_behind s bytes   the records that these bytes are, read from a state; of unknown bytes none
 --   records_left reader      the records that a reader of a slice has left
 --   record_line c r          the line of the document of a record, at columns
---   StandsBetween reader     it reads records as the definition does, and stands between two, before bytes that are known
+--   StandsBetween reader     it reads records as the definition does, of any number of fields, and stands between two, before bytes that are known
 use Rattle.std.specs.Prelude.{◌≡◌, ℕ, ◌+◌, false, true, List, [], length, Option, Some, None, is_some}
 use Rattle.std.specs.Borrow.{Bor}
 use Rattle.csv.specs.Machine.{ends_at_end}
@@ -33,9 +33,10 @@ records_left reader = records_behind reader.state (bytes_left reader)
 unfoldable pub record_line : HeaderColumns → List (List ℕ) → List ℕ
 record_line c r = translated (field_in r c.title) (field_in r c.facets) (field_in r c.text)
 
--- nothing is trimmed, the signs are the usual ones, no record has been begun, and the bytes left are known
+-- nothing is trimmed, no number of fields is wrong, the signs are the usual ones, no record has been begun, and the bytes left are known
 pub record StandsBetween (reader : Reader (Bor (List ℕ))) : Type 0 where
   pub trim : reader.trim ≡ trim.None
+  pub flexible : reader.flexible ≡ true
   pub ready : Ready reader
   pub config : reader.config ≡ default_config
   pub between : ends_at_end reader.state ≡ false

@@ -5,7 +5,7 @@ ghost use Rattle.csv.specs.Records.{fields_of};
 ghost use Rattle.cs_more.specs.RecordsLeft.{StandsBetween, records_left};
 
 use cs_base::Memory;
-use csv::{ByteRecord, Reader, ReaderBuilder};
+use csv::{ByteRecord, ErrorKind, Reader, ReaderBuilder};
 use std::alloc::Global;
 
 /// A reader of the records of a table, of any number of fields, the header among them. It skips leading bytes EF BB BF
@@ -22,7 +22,8 @@ pub(crate) fn records_in(alloc: Global, source: &[u8]) -> Reader<&[u8]>
 
 /// Reads the next record, and answers whether there was one.
 ///
-/// Bytes in memory are read without a fault, so each error of the reader is taken for want of memory.
+/// Records of any number of fields, whose fields are bytes, can't be refused, and bytes in memory are read without a fault: what is left of
+/// the reader's errors is want of memory.
 pub(crate) fn next_record(
     reader: &mut Reader<&[u8]>,
     fields: &mut ByteRecord,
@@ -32,8 +33,14 @@ pub(crate) fn next_record(
     ensures left { IfOk result (λ found. records_left reader.old ≡ (if found then fields_of fields.new ∷ records_left reader.new else [])) }
     ensures stands { IfOk result (λ found. found ≡ true → StandsBetween reader.new) }
 {
-    let Ok(found) = reader.read_byte_record(fields) else {
-        return Err(Memory);
-    };
-    Ok(found)
+    match reader.read_byte_record(fields) {
+        Ok(found) => Ok(found),
+        Err(error) => match error.into_kind() {
+            ErrorKind::Io(_) | ErrorKind::OutOfMemory => Err(Memory),
+            ErrorKind::UnequalLengths { .. }
+            | ErrorKind::Utf8 { .. }
+            | ErrorKind::Serialize(_)
+            | ErrorKind::Deserialize { .. } => unreachable!(),
+        },
+    }
 }

@@ -10,6 +10,7 @@ mod event_loop;
 mod faults;
 mod heads;
 mod known;
+pub mod laws;
 mod living;
 mod making;
 mod phase;

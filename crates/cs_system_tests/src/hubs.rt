@@ -2,6 +2,7 @@
 use crate::equal::same;
 use cs_base::{Event, Failed, Hub};
 use cs_system::{KEEP_LEAST, RunHub, TcpHub};
+use std::alloc::AllocError;
 use std::io::{self, Read, Write};
 use std::net::{Shutdown, TcpStream};
 use std::test::Fail;
@@ -33,9 +34,7 @@ fn client_of(
 
 // Opens the first connection and answers the first piece that comes on it. How many bytes that has.
 fn answer_first(hub: &mut TcpHub<'_, HostRuntime>, into: &mut [u8; 64]) -> Result<usize, Fail> {
-    if hub.next(into)? != Event::Opened(0) {
-        return Err(Fail::new("not opened"));
-    }
+    open_first(hub, into)?;
     let Event::Piece(0, count) = hub.next(into)? else {
         return Err(Fail::new("no piece"));
     };
@@ -54,6 +53,19 @@ fn answer_next(
     };
     hub.send(conn, response)?;
     Ok(conn)
+}
+
+// Opens the first connection.
+fn open_first(hub: &mut TcpHub<'_, HostRuntime>, into: &mut [u8; 64]) -> Result<(), Fail> {
+    if hub.next(into)? != Event::Opened(0) {
+        return Err(Fail::new("not opened"));
+    }
+    Ok(())
+}
+
+// So many bytes. It has no clause, so that no test's proof goes through them.
+fn filled(rt: &HostRuntime, count: usize) -> Result<Vec<u8>, AllocError> {
+    vec![in rt.alloc(); b'x'; count]
 }
 
 // All that comes to a client.
@@ -79,41 +91,53 @@ fn a_client_that_ends_its_side_reads_its_response(rt: HostRuntime) -> Result<(),
     Ok(())
 }
 
+// Whether a hub listens on this machine alone, and at which port.
+fn place_of(hub: &TcpHub<'_, HostRuntime>) -> io::Result<(bool, u16)> {
+    let address = hub.address()?;
+    Ok((address.ip().is_loopback(), address.port()))
+}
+
+// What another hub is told that is to listen there, and then is asked what comes.
+fn told_another(rt: &HostRuntime, port: u16) -> (Result<(), Failed>, Result<Event, Failed>) {
+    let mut hub = TcpHub::new(rt.alloc(), rt);
+    let listens = hub.listen(port, 1);
+    (listens, hub.next(&mut [0u8; 1]))
+}
+
 #[test]
 fn a_port_in_use_fails_and_ones_own_does_not(rt: HostRuntime) -> Result<(), Fail> {
     let mut piece = [0u8; 1];
     let mut hub = TcpHub::new(rt.alloc(), &rt);
-    same(
-        &rt,
-        &hub.next(&mut piece),
-        &Err(Failed),
-        "before it listens",
-    );
+    let before = hub.next(&mut piece);
     hub.listen(0, 1)?;
-    let address = hub.address()?;
-    same(&rt, &address.ip().is_loopback(), &true, "of this machine");
-    let port = address.port();
-    let mut other = TcpHub::new(rt.alloc(), &rt);
-    same(&rt, &other.listen(port, 1), &Err(Failed), "in use");
-    same(&rt, &other.next(&mut piece), &Err(Failed), "the other");
+    let (is_own, port) = place_of(&hub)?;
+    let other = told_another(&rt, port);
     hub.listen(port, 2)?;
     let _client = client_of(&rt, &hub, b"")?;
-    same(&rt, &hub.next(&mut piece), &Ok(Event::Opened(0)), "its own");
+    let found = (before, is_own, other, hub.next(&mut piece));
+    let want = (
+        Err(Failed),
+        true,
+        (Err(Failed), Err(Failed)),
+        Ok(Event::Opened(0)),
+    );
+    same(&rt, &found, &want, "before, where, another one, its own");
     Ok(())
 }
 
 // As many bytes as the system takes of a reply, and more than it brings to a peer that doesn't read.
 const HELD: usize = 524_288;
 
+// More than is read of a request at once.
+const UNREAD: usize = 8_192;
+
 #[test]
 fn unread_bytes_reset_no_response(rt: HostRuntime) -> Result<(), Fail> {
     let mut hub = listening(&rt, 2)?;
-    let mut client = client_of(&rt, &hub, &[b'x'; 8192])?;
+    let mut client = client_of(&rt, &hub, &filled(&rt, UNREAD)?)?;
     let mut into = [0u8; 64];
-    if hub.next(&mut into)? != Event::Opened(0) {
-        return Err(Fail::new("not opened"));
-    }
-    let held = vec![in rt.alloc(); b'x'; HELD]?;
+    open_first(&mut hub, &mut into)?;
+    let held = filled(&rt, HELD)?;
     answer_next(&mut hub, &mut into, &held)?;
     hub.close(0);
     let response = response_of(&rt, &mut client)?;
@@ -183,7 +207,7 @@ fn one_that_may_not_come_ends_nobody(rt: HostRuntime) -> Result<(), Fail> {
     let _first = client_of(&rt, &hub, REQUEST)?;
     let mut into = [0u8; 64];
     answer_first(&mut hub, &mut into)?;
-    let _second = client_of(&rt, &hub, &[b'x'; 2048])?;
+    let _second = client_of(&rt, &hub, &filled(&rt, 2048)?)?;
     same(&rt, &hub.next(&mut into), &Ok(Event::Opened(1)), "the next");
     let _third = client_of(&rt, &hub, REQUEST)?;
     thread::sleep(&rt, Duration::from_millis(2 * KEEP_LEAST));
@@ -203,10 +227,8 @@ fn a_reply_that_is_not_read_waits_for_its_reader(rt: HostRuntime) -> Result<(), 
     let mut hub = listening(&rt, 2)?;
     let slow = client_of(&rt, &hub, REQUEST)?;
     let mut into = [0u8; 64];
-    if hub.next(&mut into)? != Event::Opened(0) {
-        return Err(Fail::new("not opened"));
-    }
-    let long = vec![in rt.alloc(); b'x'; LONG]?;
+    open_first(&mut hub, &mut into)?;
+    let long = filled(&rt, LONG)?;
     answer_next(&mut hub, &mut into, &long)?;
     let mut other = client_of(&rt, &hub, REQUEST)?;
     same(
