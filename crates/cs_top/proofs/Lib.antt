@@ -6,6 +6,8 @@ pub mod CompleteLemmas
 pub mod CommandLineExamples
 pub mod LineTexts
 pub mod LiveLemmas
+pub mod LiveStateLemmas
+pub mod LiveStepLemmas
 pub mod LiveTextsApart
 pub mod MemoryText
 pub mod OverLemmas

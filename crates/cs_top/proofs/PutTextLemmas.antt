@@ -5,7 +5,7 @@
 --   puts_cut, nothing_put    where the script ends at a line, or before the first one
 --   puts_some                of any lines
 --   memory_put, read_put, text_put, change_put     an answer has a text by what comes of its line
---   line_puts, line_cuts     a line whose answer was put, and one whose answer wasn't put whole
+--   line_puts, line_cuts     a line whose answer was put, and one whose answer wasn't put whole; `puts_line_of` and `cuts_line_of` of any such texts
 use Rattle.std.proofs.Common.{◌≡◌, ◌≢◌, ◌⊎◌, ℕ, List, [], ◌∷◌, ◌++◌, Contains, inl, inr, refl, sym, ◌∙◌, ap, subst, Vec, Global}
 use Rattle.std.specs.Prelude.{Option, Some, None, Result, Ok, Err, IfOk, IfErr, OnOk, OnErr}
 use Rattle.std.specs.Option.{ForSome}
@@ -168,14 +168,23 @@ pub change_put : (form : HitForm) (o : Option (Vec ℕ Global)) (rule at : ℕ) 
 change_put form None rule at h = (memory_text, refl, inr refl)
 change_put form (Some b) rule at h = (changed_text rule at, h b refl, inl (rule, at, refl))
 
+-- a line whose text was put, and one whose text wasn't put whole
+module _ (own : OwnText) (came : WhatCame) (bytes t : List ℕ) (is : bytes ≡ t ++ 10 ∷ []) (by : TextOf own came t) where
+  pub puts_line_of : {E : Type 0} (r : Result WhatCame E) (old new : Option (List ℕ)) → OnOk r (Grew old bytes new) → IfOk r (λ c. c ≡ came) → IfOk r (λ x. PutsLineOf own x old new)
+  puts_line_of (Ok x) old new g same = subst (λ y. PutsLineOf own y old new) (sym same) (inr (t, by, subst (λ b. Grew old b new) is g))
+  puts_line_of (Err e) old new g same = tt
+
+  pub cuts_line_of : (r : Result WhatCame ScriptStop) (w : Wrote) → OnErr r (GrewByPrefix w.old bytes w.new) → IfErr r (λ s. s ≡ scripts.Failed) → IfErr r (λ s. CausedBy (stop_ending (of_script s)) w.before w.now)
+      → IfErr r (λ s. CutsLineOf own (stop_ending (of_script s)) w)
+  cuts_line_of (Ok x) w g same cause = tt
+  cuts_line_of (Err s) w g same cause =
+      let rose : Rose w.before w.now = (subst (λ x. CausedBy (stop_ending (of_script x)) w.before w.now) same cause).0 in
+      subst (λ x. CutsLineOf own (stop_ending (of_script x)) w) (sym same) (inr (rose, (came, t, by, subst (λ b. GrewByPrefix w.old b w.new) is g)))
+
 module _ (form : HitForm) (a : Answer) (h : HasTextBy form a) where
   pub line_puts : {E : Type 0} (r : Result WhatCame E) (old new : Option (List ℕ)) → OnOk r (Grew old (line_bytes a) new) → IfOk r (λ c. c ≡ came_of_answer a) → IfOk r (λ came. PutsLine form came old new)
-  line_puts (Ok x) old new g is = subst (λ y. PutsLine form y old new) (sym is) (inr (h.0, h.2, subst (λ b. Grew old b new) h.1 g))
-  line_puts (Err e) old new g is = tt
+  line_puts = puts_line_of (IsOwnText form) (came_of_answer a) (line_bytes a) h.0 h.1 h.2
 
   pub line_cuts : (r : Result WhatCame ScriptStop) (w : Wrote) → OnErr r (GrewByPrefix w.old (line_bytes a) w.new) → IfErr r (λ s. s ≡ scripts.Failed) → IfErr r (λ s. CausedBy (stop_ending (of_script s)) w.before w.now)
       → IfErr r (λ s. CutsLine form (stop_ending (of_script s)) w)
-  line_cuts (Ok x) w g is cause = tt
-  line_cuts (Err s) w g is cause =
-      let rose : Rose w.before w.now = (subst (λ x. CausedBy (stop_ending (of_script x)) w.before w.now) is cause).0 in
-      subst (λ x. CutsLine form (stop_ending (of_script x)) w) (sym is) (inr (rose, (came_of_answer a, h.0, h.2, subst (λ b. GrewByPrefix w.old b w.new) h.1 g)))
+  line_cuts = cuts_line_of (IsOwnText form) (came_of_answer a) (line_bytes a) h.0 h.1 h.2

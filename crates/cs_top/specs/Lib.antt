@@ -11,6 +11,7 @@ pub mod LiveSteps
 pub mod LiveTexts
 pub mod Merge
 pub mod Met
+pub mod OutcomeTexts
 pub mod PutTexts
 pub mod ScriptEndings
 pub mod ScriptRuns

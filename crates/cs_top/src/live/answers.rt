@@ -1,16 +1,18 @@
 //! One line of a script that adds documents, deletes them or asks, answered.
-ghost use Rattle.std.specs.Prelude.{◌≡◌, ◌≢◌, ◌≤◌, ℕ, List, All, length, IfOk, IfErr, OnOk};
+ghost use Rattle.std.specs.Prelude.{◌≡◌, ◌≢◌, ◌≤◌, ℕ, List, All, None, length, IfOk, IfErr, OnOk};
 ghost use Rattle.cs_base.specs.content.Bytes.{line_feed};
 ghost use Rattle.cs_base.specs.outside.Outside.{file_bytes};
 ghost use Rattle.cs_file.specs.Indexes.{HasAllBlocks};
-ghost use Rattle.cs_base.specs.declared.content.limits.TheConstants.{MAX_SCRIPT_LINE_BYTES};
-ghost use Rattle.cs_live.specs.Lives.{IsAccepted};
+ghost use Rattle.cs_base.specs.declared.content.{limits.TheConstants.{MAX_SCRIPT_LINE_BYTES}, scores.Weights.{Weights}};
+ghost use Rattle.cs_live.specs.Lives.{IsAccepted, IsStateOf};
+ghost use Rattle.cs_live_lines.specs.LineViews.{IsOnlyDocument};
+ghost use Rattle.cs_model.specs.Weights.{AreWeights};
 ghost use Rattle.cs_model_index.specs.Sections.{file_corpus, image_of};
-ghost use Rattle.cs_model_live.specs.LiveLines.{adds, deletes};
+ghost use Rattle.cs_model_live.specs.LiveLines.{added_outcome, by_refusals, deleted_outcome};
 ghost use Rattle.cs_model_live.specs.LiveStates.{LiveState, full_refusal};
 ghost use Rattle.cs_top.specs.Answering.{CameCounts};
 ghost use Rattle.cs_top.specs.CommandLine.{CausedBy};
-ghost use Rattle.cs_top.specs.LiveAnswering.{IsLiveAt, LiveOver, StaysIndex, Tells, TellsAddition};
+ghost use Rattle.cs_top.specs.LiveAnswering.{IsLiveAt, LiveOver, StaysIndex, Tells};
 ghost use Rattle.cs_top.specs.LiveSteps.{LineText, LivePasses};
 ghost use Rattle.cs_top.specs.LiveTexts.{HasOutcomeText, IsLiveText};
 ghost use Rattle.cs_top.specs.Met.{wrote};
@@ -23,7 +25,7 @@ use super::outcomes::{Outcome, put_outcome};
 use crate::files::HeldFile;
 use crate::lines::{ScriptStop, line_fault};
 use crate::script::WhatCame;
-use crate::script::answers::{memory_line, put_outcome_of};
+use crate::script::answers::{answer_by, memory_line, put_answer};
 use crate::showing::Showing;
 use cs_base::{Doc, Files, Sink};
 use cs_live::{AddFault, Live, RemoveFault};
@@ -70,7 +72,8 @@ pub(super) fn answer_line<F: Files, O: Sink>(
         LiveLine::Deletes(digits) => put_outcome(out, delete(alloc, live, digits)),
         LiveLine::Asks(params) => {
             let outcome = outcome_now(alloc, live, index, files, params);
-            put_outcome_of(&Showing::titled(alloc), outcome, out)
+            let answer = answer_by(&Showing::titled(alloc), outcome);
+            put_answer(out, &answer)
         }
     }
 }
@@ -80,7 +83,8 @@ fn add(alloc: Global, live: &mut Live, line: &[u8]) -> Outcome
     requires one { All (λ b. b ≢ line_feed) line.now }
     requires short { length line.now ≤ MAX_SCRIPT_LINE_BYTES }
 
-    ensures tells { (b : List ℕ) (s : LiveState) → IsLiveAt b live.old s → (e : LiveState) × Tells b s (adds line.now) result e × IsLiveAt b live.new e }
+    ensures tells { (b : List ℕ) (s : LiveState) → IsLiveAt b live.old s → (e : LiveState)
+        × Tells b s (added_outcome (image_of b).weights (file_corpus b) s line.now) result e × IsLiveAt b live.new e }
     ensures texts { HasOutcomeText result }
     ensures index { live.new.state.index ≡ live.old.state.index }
 {
@@ -94,15 +98,17 @@ fn add(alloc: Global, live: &mut Live, line: &[u8]) -> Outcome
     }
 }
 
-// Adds a document, if there is room for it, and says what became of it.
+// Adds a document that is read of a line, if there is room for it, and says what became of it.
 fn add_document(alloc: Global, live: &mut Live, document: Doc) -> Outcome
-    requires { IsAccepted live.old.state.index.weights document }
+    requires { (w : Weights) → AreWeights w → IsOnlyDocument w document }
 
     ensures tells { (b : List ℕ) (s : LiveState) → IsLiveAt b live.old s → (e : LiveState)
-        × TellsAddition b s (full_refusal (image_of b).weights (file_corpus b) s document) document result e × IsLiveAt b live.new e }
+        × Tells b s (by_refusals None (full_refusal (image_of b).weights (file_corpus b) s document) document) result e × IsLiveAt b live.new e }
     ensures texts { HasOutcomeText result }
     ensures index { live.new.state.index ≡ live.old.state.index }
 {
+    can_be_added(live, &document);
+    is_in_state(live);
     match live.add(alloc, document) {
         Ok(doc) => Outcome::Added {
             doc,
@@ -117,7 +123,7 @@ fn add_document(alloc: Global, live: &mut Live, document: Doc) -> Outcome
 
 // Deletes the document of a number, if it is one of a document, and says what became of it.
 fn delete(alloc: Global, live: &mut Live, digits: &[u8]) -> Outcome
-    ensures tells { (b : List ℕ) (s : LiveState) → IsLiveAt b live.old s → (e : LiveState) × Tells b s (deletes digits.now) result e × IsLiveAt b live.new e }
+    ensures tells { (b : List ℕ) (s : LiveState) → IsLiveAt b live.old s → (e : LiveState) × Tells b s (deleted_outcome s digits.now) result e × IsLiveAt b live.new e }
     ensures texts { HasOutcomeText result }
     ensures index { live.new.state.index ≡ live.old.state.index }
 {
@@ -131,4 +137,20 @@ fn delete(alloc: Global, live: &mut Live, digits: &[u8]) -> Outcome
         Err(RemoveFault::Absent) => Outcome::Line(absent_line()),
         Err(RemoveFault::Memory) => Outcome::Line(memory_line()),
     }
+}
+
+// The only document of a collection, whichever weights that has, is one with the weights of an index.
+fn can_be_added(live: &Live, document: &Doc)
+    requires { (w : Weights) → AreWeights w → IsOnlyDocument w document.now }
+
+    ensures { IsAccepted live.now.state.index.weights document.now }
+{
+    let _ = live.weights();
+}
+
+// An index under changes is counted as the live corpus whose state it is in.
+fn is_in_state(live: &Live)
+    ensures { (b : List ℕ) (s : LiveState) → IsLiveAt b live.now s → IsStateOf b live.now s }
+{
+    let _ = live.changes();
 }

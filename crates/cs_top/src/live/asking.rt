@@ -44,7 +44,7 @@ impl<F: Files> Answerer for AskingLive<'_, '_, F> {
 
     ghost Kept = { LiveStanding };
 
-    ghost kept = { λ a. live_standing a.live.now (F.held a.files.now) };
+    ghost kept = { λ a. live_standing a.live.now a.index.name.now (F.held a.files.now) };
 
     ghost leaves = { LiveLeaves };
 
@@ -66,7 +66,7 @@ pub(super) fn outcome_now<F: Files>(
     requires sized { IsSized (F.held files.old) index }
     requires fits { HasAllBlocks (file_bytes (F.held files.old) index.name.now) live.old.state.index }
 
-    ensures comes { ComesOf LiveLeaves params.now (live_standing live.old (F.held files.old)) result (live_standing live.new (F.held files.new)) }
+    ensures comes { ComesOf LiveLeaves params.now (live_standing live.old index.entry.name.now (F.held files.old)) result (live_standing live.new index.entry.name.now (F.held files.new)) }
     ensures right { (b : List ℕ) (s : LiveState) → LiveOver live.old index.entry.name.now (F.held files.old) b s → IsRightOutcome s.corpus params.now result }
     ensures live { (b : List ℕ) (s : LiveState) → LiveOver live.old index.entry.name.now (F.held files.old) b s → LiveOver live.new index.entry.name.now (F.held files.new) b s }
     ensures caused { CausedReads (fails_read result) (F.faults files.old) (F.faults files.new) }

@@ -14,6 +14,7 @@ ghost use Rattle.cs_top.specs.CommandLine.{CausedBy};
 ghost use Rattle.cs_top.specs.HitForms.{form_by, shown_reply};
 ghost use Rattle.cs_top.specs.declared.script.answers.Answer.TheVariants as answers;
 ghost use Rattle.cs_top.specs.Met.{wrote};
+ghost use Rattle.cs_top.specs.OutcomeTexts.{IsAnswerBy};
 ghost use Rattle.cs_top.specs.PutTexts.{CutsLine, HasTextBy, IsChangeLine, PutsLine};
 ghost use Rattle.cs_top.specs.ScriptEndings.{Passes, StopsAt};
 ghost use Rattle.cs_top.specs.Views.{of_script, stop_ending};
@@ -25,13 +26,14 @@ use crate::showing::Showing;
 use cs_base::{Files, Memory, Query, Sink};
 use cs_engine::{AskFault, Engine};
 use cs_http::request;
+use cs_hub::RequestOutcome;
 use cs_json::{Fault, fault_bytes};
 use cs_query::{Reply, ReqFault, Request};
 use std::alloc::Global;
 
 /// What is put for a line that is read, with its line ending.
 #[derive(Drop)]
-enum Answer {
+pub(crate) enum Answer {
     /// Its text.
     Text(Vec<u8>),
     /// The text of want of memory.
@@ -84,8 +86,8 @@ pub(crate) fn answer_line<F: Files, O: Sink>(
     put_answer(out, &answer)
 }
 
-// Puts an answer, and says what came of the line.
-fn put_answer<O: Sink>(out: &mut O, answer: &Answer) -> Result<WhatCame, ScriptStop>
+/// Puts an answer, and says what came of the line.
+pub(crate) fn put_answer<O: Sink>(out: &mut O, answer: &Answer) -> Result<WhatCame, ScriptStop>
     ensures ok { OnOk result (Grew (O.written out.old) (line_bytes answer.now) (O.written out.new)) }
     ensures came { IfOk result (λ c. c ≡ came_of_answer answer.now) }
     ensures err { OnErr result (GrewByPrefix (O.written out.old) (line_bytes answer.now) (O.written out.new)) }
@@ -169,35 +171,30 @@ fn answer_request<F: Files>(
     ensures changed { IsChangeLine engine.old.index (bytes_there file.old (F.held files.old)) result }
     ensures over { StaysOver engine.old engine.new file.old file.new (F.held files.old) (F.held files.new) }
 {
-<<<<<<< HEAD
-    answer_by(showing, outcome_over(showing.alloc, engine, file, files, line))
-}
-
-/// Puts what came of parameters for the line that has them, and says what came of the line.
-pub(crate) fn put_outcome_of<O: Sink>(
-    showing: &Showing<'_>,
-    outcome: RequestOutcome,
-    out: &mut O,
-) -> Result<WhatCame, ScriptStop> {
-    let answer = answer_by(showing, outcome);
-    put_answer(out, &answer)
-}
-
-// What is put where this came of parameters.
-fn answer_by(showing: &Showing<'_>, outcome: RequestOutcome) -> Answer {
-    match outcome {
-        RequestOutcome::Refused(fault) => text_or_memory(refusal_line(showing.alloc, fault)),
-        RequestOutcome::Replied(wanted, reply) => {
-            text_or_memory(reply_line(showing, &wanted.query, &reply))
-=======
     match respond(showing.alloc, engine, file, files, wanted) {
         Ok((reply, _)) => text_or_memory(reply_line(showing, &wanted.query, &reply)),
         Err(AskFault::Memory) => Answer::Memory,
         Err(AskFault::Read) => Answer::Read,
         Err(AskFault::Changed { rule, at }) => {
             Answer::Changed(changed_line(showing.alloc, rule, at))
->>>>>>> aa83beb2
         }
+    }
+}
+
+/// What is put where this came of parameters.
+pub(crate) fn answer_by(showing: &Showing<'_>, outcome: RequestOutcome) -> Answer
+    ensures { IsAnswerBy showing.now outcome result }
+{
+    match outcome {
+        RequestOutcome::Refused(fault) => text_or_memory(refusal_line(showing.alloc, fault)),
+        RequestOutcome::Replied(wanted, reply) => {
+            text_or_memory(reply_line(showing, &wanted.query, &reply))
+        }
+        RequestOutcome::Read => Answer::Read,
+        RequestOutcome::Changed { rule, at } => {
+            Answer::Changed(changed_line(showing.alloc, rule, at))
+        }
+        RequestOutcome::Memory => Answer::Memory,
     }
 }
 
