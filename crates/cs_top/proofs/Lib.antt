@@ -6,10 +6,12 @@ pub mod CompleteLemmas
 pub mod CommandLineExamples
 pub mod LineTexts
 pub mod LiveLemmas
+pub mod LiveOverLemmas
 pub mod LiveStateLemmas
 pub mod LiveStepLemmas
 pub mod LiveTextsApart
 pub mod MemoryText
+pub mod OutcomeTextLemmas
 pub mod OverLemmas
 pub mod PutTextLemmas
 pub mod SaysLemmas

@@ -5,9 +5,10 @@
 --   added_tells, full_tells             a document was added, and one for which there is no room
 --   deleted_tells, absent_tells         a document was deleted, and none has the number
 --   some_number, no_number, unnumbered  by whether digits have a number's form
+--   removed_there, removed_absent       by what a deletion answered
 --   read_line_tells, refused_outcome, nothing_added     a line whose document is read, one that is refused, and one without a document
-use Rattle.std.proofs.Common.{◌≡◌, ◌≢◌, ℕ, ◌+◌, Bool, true, false, List, [], ◌∷◌, ◌++◌, length, length-append, inl, inr, refl, sym, ◌∙◌, ap, ap₂, subst, arith}
-use Rattle.std.specs.Prelude.{Option, Some, None, fold, if◌then◌else◌}
+use Rattle.std.proofs.Common.{◌≡◌, ◌≢◌, ◌==◌, ℕ, ◌+◌, Bool, true, false, List, [], ◌∷◌, ◌++◌, length, length-append, inl, inr, refl, sym, ◌∙◌, ap, ap₂, subst, arith}
+use Rattle.std.specs.Prelude.{◌↔◌, MatchOption, Result, Ok, Err, Option, Some, None, fold, if◌then◌else◌}
 use Rattle.std.specs.FinMap as finmap
 use Rattle.std.proofs.lemmas.List.{append-nil}
 use Rattle.std.proofs.lemmas.List.Sums.{fold-append}
@@ -17,7 +18,10 @@ use Rattle.cs_base.specs.content.Orders.{by_row}
 use Rattle.cs_base.specs.declared.content.doc.Doc.{Doc}
 use Rattle.cs_base.specs.declared.content.scores.Weights.{Weights}
 use Rattle.cs_file.specs.Indexes.{IndexView, StandsFor, index_in}
-use Rattle.cs_live.specs.Lives.{AreGoodNow, IsAdded, IsBehind, IsRemoved, IsStateOf, LiveView, changes_in, changing, full_now, has_document, next_number}
+use Rattle.cs_live.specs.Lives.{AreGoodNow, IsAdded, IsBehind, IsRemoved, IsStateOf, LiveView, NamesFull, changes_in, changing, full_now, full_of, has_document, next_number}
+use Rattle.cs_live.specs.declared.fault.AddFault.{AddFault}
+use Rattle.cs_live.specs.declared.fault.RemoveFault.{RemoveFault}
+use Rattle.cs_live.specs.declared.fault.RemoveFault.TheVariants as removals
 use Rattle.cs_model.specs.Collection.{CollectionRefusal, document, line_refusal}
 use Rattle.cs_model.specs.Corpus.{Corpus, doc_rows}
 use Rattle.cs_model.specs.Digits.{has_digits, number_of}
@@ -79,7 +83,7 @@ module _ (b : List ℕ) (s : LiveState) (m : Became) (o : Outcome) where
   tells_memory is = inr (is, refl)
 
   pub tells_said : (t : List ℕ) → m ≡ said t → told_bytes o ≡ t ++ 10 ∷ [] → Tells b s m o s
-  tells_said t said is = subst (λ x. Tells b s x o s) (sym said) (inl (is, refl))
+  tells_said t only is = subst (λ x. Tells b s x o s) (sym only) (inl (is, refl))
 
 -- ---- over an index under changes
 module _ (b : List ℕ) (l : LiveView) (s : LiveState) (h : IsLiveAt b l s) where
@@ -138,6 +142,17 @@ module _ (b : List ℕ) (l : LiveView) (s : LiveState) (h : IsLiveAt b l s) wher
     pub full_tells : (f : Full) (o : Outcome) → full_now l doc ≡ Some f → told_bytes o ≡ full_text f ++ 10 ∷ [] → Tells b s became o s
     full_tells f o full is = tells_said b s became o (full_text f) (ap (λ x. by_refusals None x doc) (full_same ∙ full)) is
 
+    -- by the fault that says so
+    pub fault_tells : (e v : AddFault) (f : Full) (o : Outcome) (new : LiveView) → NamesFull l doc e → e ≡ v → full_of v ≡ Some f → told_bytes o ≡ full_text f ++ 10 ∷ [] → new ≡ l
+        → (x : LiveState) × Tells b s became o x × IsLiveAt b new x
+    fault_tells e v f o new named is full told same =
+        let cause : MatchOption (Some f) (Unit {0}) (λ x. full_now l doc ≡ Some x) = subst (λ x. MatchOption x (Unit {0}) (λ y. full_now l doc ≡ Some y)) full (subst (NamesFull l doc) is named) in
+        (s, full_tells f o cause told, subst (λ x. IsLiveAt b x s) (sym same) h)
+
+  -- ---- where nothing changes
+  pub stays_told : (m : Became) (o : Outcome) (new : LiveView) → Tells b s m o s → new ≡ l → (x : LiveState) × Tells b s m o x × IsLiveAt b new x
+  stays_told m o new tells same = (s, tells, subst (λ x. IsLiveAt b x s) (sym same) h)
+
   -- ---- deletions
   module _ (digits : List ℕ) (d : ℕ) (form : has_digits MAX_DOC_DIGITS digits ≡ true) (number : d ≡ number_of digits) (there : finmap.contains_key (changing l b).corpus.titles d ≡ has_document l d) where
     known : finmap.contains_key s.corpus.titles (number_of digits) ≡ has_document l d
@@ -165,7 +180,7 @@ module _ (b : List ℕ) (l : LiveView) (s : LiveState) (h : IsLiveAt b l s) wher
 
 -- ---- numbers
 pub some_number : (t : Bool) (n d : ℕ) → Some d ≡ (if t then Some n else None) → (t ≡ true) × (d ≡ n)
-some_number true n d e = (refl, same_Some e)
+some_number true n d e = (refl, same_Some d n e)
 some_number false n d e = absurd cc
 
 pub no_number : (t : Bool) (n : ℕ) → None ≡ (if t then Some n else None) → t ≡ false
@@ -175,7 +190,18 @@ no_number false n e = refl
 pub unnumbered : (s : LiveState) (digits : List ℕ) → has_digits MAX_DOC_DIGITS digits ≡ false → deleted_outcome s digits ≡ said change_text
 unnumbered s digits form = rw form refl
 
+pub removed_there : {T : Type 0} (r : Result T RemoveFault) (x : T) (has : Bool) → r ≡ Ok x → ((r ≡ Err removals.Absent) ↔ (has ≡ false)) → has ≡ true
+removed_there r x true is absent = refl
+removed_there r x false is absent = let wrong = sym is ∙ absent.1 refl in absurd cc
+
+pub removed_absent : {T : Type 0} (r : Result T RemoveFault) (e : RemoveFault) (has : Bool) → r ≡ Err e → e ≡ removals.Absent → ((r ≡ Err removals.Absent) ↔ (has ≡ false)) → has ≡ false
+removed_absent {T} r e has is same absent = absent.0 (is ∙ ap (λ (x : RemoveFault). Err {T = T} x) same)
+
 -- ---- lines that add
+pub no_bytes : (l : List ℕ) → true ≡ (length l == 0) → l ≡ []
+no_bytes [] h = refl
+no_bytes (b ∷ l) h = absurd cc
+
 pub read_line_tells : (b : List ℕ) (s : LiveState) (line : List ℕ) (doc : Doc) (o : Outcome) (e : LiveState) → line ≢ [] → line_refusal (second_line line) ≡ None → doc ≡ document (second_line line)
     → Tells b s (by_refusals None (full_refusal (image_of b).weights (file_corpus b) s doc) doc) o e → Tells b s (added_outcome (image_of b).weights (file_corpus b) s line) o e
 read_line_tells b s [] doc o e some read is h = absurd (some refl)

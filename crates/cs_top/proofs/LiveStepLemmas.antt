@@ -1,13 +1,16 @@
 -- One line of a script that adds documents, deletes them and asks: the step that it is, and how its text is put.
 --
+--   behind_adds            what holds of each byte of a line that adds holds of those of its document
 --   IsToldStep b s l came n m bytes e     these bytes are put for a step to the state e, by what comes of the line
 --   change_step            of a line that adds or deletes
 --   asked_step             of a line that asks
 --   live_ok, live_err      a line whose text was put, and one whose text wasn't put whole
 --   answer_text            over any files: the text of an answer, by what comes of the line
-use Rattle.std.proofs.Common.{◌≡◌, ◌≢◌, ℕ, ◌≤◌, Bool, true, false, List, [], ◌∷◌, ◌++◌, inl, inr, refl, sym, ◌∙◌, ap, subst, arith}
-use Rattle.std.specs.Prelude.{Option, Some, None, Result, Ok, Err, OnOk, OnErr, IfOk, IfErr}
+use Rattle.std.proofs.Common.{◌≡◌, ◌≢◌, ℕ, ◌≤◌, Bool, true, false, List, [], ◌∷◌, ◌++◌, drop, length, inl, inr, refl, sym, ◌∙◌, ap, subst, arith}
+use Rattle.std.specs.Prelude.{All, codes, if◌then◌else◌, Option, Some, None, Result, Ok, Err, OnOk, OnErr, IfOk, IfErr}
 use Rattle.std.proofs.lemmas.List.{append_cancel_right}
+use Rattle.std.proofs.lemmas.List.Elements.{All-drop}
+use Rattle.cs_model.specs.Answers.{begins}
 use Rattle.cs_base.specs.outside.Causes.{Rose}
 use Rattle.cs_base.specs.outside.Outside.{Grew, GrewByPrefix}
 use Rattle.cs_file.specs.Indexes.{CausedReads}
@@ -22,7 +25,7 @@ use Rattle.cs_model.specs.Parameters.{request_of}
 use Rattle.cs_model.specs.Replies.{reply_text}
 use Rattle.cs_model_index.specs.Sections.{file_corpus, image_of}
 use Rattle.cs_model_live.specs.Courses.{IsLineStep, MayFail, failed, own}
-use Rattle.cs_model_live.specs.LiveLines.{LiveLine, Outcome as Became, asks, line_outcome, live_line, outcome, outcome_state, outcome_text, said}
+use Rattle.cs_model_live.specs.LiveLines.{LiveLine, Outcome as Became, adds, asks, deletes, line_outcome, live_line, outcome, outcome_state, outcome_text, said}
 use Rattle.cs_model_live.specs.LiveStates.{LiveState}
 use Rattle.cs_query.specs.RequestView.{asked}
 use Rattle.cs_top.specs.Answering.{CameCounts, Costs, came_of_answer, line_bytes}
@@ -46,6 +49,21 @@ use Rattle.cs_top.proofs.LineTexts.{refused_own, refused_text, request_text}
 use Rattle.cs_top.proofs.LiveTextsApart.{live_apart}
 use Rattle.cs_top.proofs.ShownLemmas.{reply_in}
 use Rattle.cs_top.proofs.TextsApart.{changed_unread, memory_apart}
+
+-- ---- what stands behind the first bytes of a line
+rest_of : LiveLine → List ℕ
+rest_of (adds x) = x
+rest_of (deletes x) = x
+rest_of (asks x) = x
+
+rest_all : (P : ℕ → Type 0) (p q : Bool) (n m : ℕ) (l : List ℕ) → All P l → All P (rest_of (if p then adds (drop n l) else (if q then deletes (drop m l) else asks l)))
+rest_all P true q n m l h = All-drop P n l h
+rest_all P false true n m l h = All-drop P m l h
+rest_all P false false n m l h = h
+
+pub behind_adds : (P : ℕ → Type 0) (l x : List ℕ) → live_line l ≡ adds x → All P l → All P x
+behind_adds P l x is h =
+    subst (All P) (ap rest_of is) (rest_all P (begins (codes "add ") l) (begins (codes "del ") l) (length (codes "add ")) (length (codes "del ")) l h)
 
 -- ---- a step that is told
 pub record IsToldStep (b : List ℕ) (s : LiveState) (l : List ℕ) (came : WhatCame) (n m : ℕ) (bytes : List ℕ) (e : LiveState) : Type 0 where
@@ -152,8 +170,8 @@ module _ (b : List ℕ) (s : LiveState) (l : ℕ × List ℕ) (some : l.1 ≢ []
   passes : (old new : Option (List ℕ)) → Grew old bytes new → LivePasses b s l old new came n m e
   passes old new g = inr (some, read, (h.text, h.step, h.cost, subst (λ x. Grew old x new) h.is g))
 
-  pub live_ok : {E : Type 0} (P : Type 0) (r : Result WhatCame E) (old new : Option (List ℕ)) → OnOk r (Grew old bytes new) → IfOk r (λ x. x ≡ came) → P → IfOk r (λ x. LivePasses b s l old new x n m e × P)
-  live_ok P (Ok x) old new g is over = (subst (λ y. LivePasses b s l old new y n m e) (sym is) (passes old new g), over)
+  pub live_ok : {E : Type 0} (P : LiveState → Type 0) (r : Result WhatCame E) (old new : Option (List ℕ)) → OnOk r (Grew old bytes new) → IfOk r (λ x. x ≡ came) → P e → IfOk r (λ x. (m' : LiveState) × LivePasses b s l old new x n m m' × P m')
+  live_ok P (Ok x) old new g is over = (e, subst (λ y. LivePasses b s l old new y n m e) (sym is) (passes old new g), over)
   live_ok P (Err x) old new g is over = tt
 
   pub live_err : (r : Result WhatCame ScriptStop) (w : Wrote) → OnErr r (GrewByPrefix w.old bytes w.new) → IfErr r (λ z. z ≡ scripts.Failed) → IfErr r (λ z. CausedBy (stop_ending (of_script z)) w.before w.now)

@@ -28,7 +28,7 @@ struct AskingLive<'a, 'b, F: Files> {
 }
 
 impl<F: Files> Answerer for AskingLive<'_, '_, F> {
-    ghost use Rattle.std.specs.Prelude.{Option};
+    ghost use Rattle.std.specs.Prelude.{Option, List, ℕ};
     ghost use Rattle.std.specs.Borrow.{GName};
     ghost use Rattle.cs_base.specs.outside.Outside.{Held};
     ghost use Rattle.cs_file.specs.Indexes.{IndexView};
@@ -38,9 +38,9 @@ impl<F: Files> Answerer for AskingLive<'_, '_, F> {
 
     ghost faults = { λ a. F.faults a.files.now };
 
-    ghost Lent = { GName × (GName × (IndexView × Option Held)) };
+    ghost Lent = { GName × (GName × (List ℕ × (IndexView × Option Held))) };
 
-    ghost lent = { λ a. (a.live.ghost_name, (a.files.ghost_name, (a.live.now.state.index, F.held a.files.now))) };
+    ghost lent = { λ a. (a.live.ghost_name, (a.files.ghost_name, (a.index.name.now, (a.live.now.state.index, F.held a.files.now)))) };
 
     ghost Kept = { LiveStanding };
 
