@@ -10,7 +10,8 @@
 use Rattle.std.proofs.Common.{◌≡◌, ◌≢◌, ◌==◌, ℕ, ◌+◌, Bool, true, false, List, [], ◌∷◌, ◌++◌, length, length-append, inl, inr, refl, sym, ◌∙◌, ap, ap₂, subst, arith}
 use Rattle.std.specs.Prelude.{◌↔◌, MatchOption, Result, Ok, Err, Option, Some, None, fold, if◌then◌else◌}
 use Rattle.std.specs.FinMap as finmap
-use Rattle.std.proofs.lemmas.List.{append-nil}
+use Rattle.std.proofs.lemmas.List.{append-nil, nil_from_length}
+use Rattle.std.proofs.lemmas.Bool.Decides.{nat_tests}
 use Rattle.std.proofs.lemmas.List.Sums.{fold-append}
 use Rattle.std.proofs.lemmas.Option.{same_Some}
 use Rattle.cs_base.specs.content.Members.{members_in}
@@ -195,12 +196,11 @@ removed_there r x true is absent = refl
 removed_there r x false is absent = let wrong = sym is ∙ absent.1 refl in absurd cc
 
 pub removed_absent : {T : Type 0} (r : Result T RemoveFault) (e : RemoveFault) (has : Bool) → r ≡ Err e → e ≡ removals.Absent → ((r ≡ Err removals.Absent) ↔ (has ≡ false)) → has ≡ false
-removed_absent {T} r e has is same absent = absent.0 (is ∙ ap (λ (x : RemoveFault). Err {T = T} x) same)
+removed_absent r e has is same absent = absent.0 (is ∙ ap (λ x. Err x) same)
 
 -- ---- lines that add
 pub no_bytes : (l : List ℕ) → true ≡ (length l == 0) → l ≡ []
-no_bytes [] h = refl
-no_bytes (b ∷ l) h = absurd cc
+no_bytes l h = nil_from_length l (grind (arith, nat_tests))
 
 pub read_line_tells : (b : List ℕ) (s : LiveState) (line : List ℕ) (doc : Doc) (o : Outcome) (e : LiveState) → line ≢ [] → line_refusal (second_line line) ≡ None → doc ≡ document (second_line line)
     → Tells b s (by_refusals None (full_refusal (image_of b).weights (file_corpus b) s doc) doc) o e → Tells b s (added_outcome (image_of b).weights (file_corpus b) s line) o e

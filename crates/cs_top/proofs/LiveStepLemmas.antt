@@ -51,7 +51,7 @@ use Rattle.cs_top.proofs.ShownLemmas.{reply_in}
 use Rattle.cs_top.proofs.TextsApart.{changed_unread, memory_apart}
 
 -- ---- what stands behind the first bytes of a line
-rest_of : LiveLine → List ℕ
+abbrev rest_of : LiveLine → List ℕ
 rest_of (adds x) = x
 rest_of (deletes x) = x
 rest_of (asks x) = x

@@ -1,8 +1,5 @@
-use Rattle.std.proofs.Common.{◌≡◌, Bool, true, false, inl, inr, refl, sym, ◌∙◌}
-use Rattle.std.specs.Prelude.{Result, Ok, Err}
+use Rattle.std.proofs.Common.{inr, refl}
 use Rattle.cs_live.specs.Lives.{has_document}
-use Rattle.cs_live.specs.declared.fault.RemoveFault.{RemoveFault}
-use Rattle.cs_live.specs.declared.fault.RemoveFault.TheVariants as removals
 use Rattle.cs_model.specs.Digits.{has_digits, number_of}
 use Rattle.cs_model_live.specs.LiveLines.{change_text, deleted_text}
 use Rattle.cs_model_live.specs.declared.limits.TheConstants.{MAX_DOC_DIGITS}
