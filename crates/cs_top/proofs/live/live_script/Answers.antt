@@ -18,7 +18,7 @@ use Rattle.cs_top.specs.declared.script.WhatCame.TheVariants.{Answered, Read, Ch
 use Rattle.cs_top.proofs.LiveLemmas.{live_answered, live_changed, live_read, live_short}
 use Rattle.cs_top.proofs.PutTextLemmas.{puts_some_of}
 use Rattle.cs_top.proofs.ScriptLemmas.{err_there, held_by, ok_there}
-use Rattle.cs_top.proofs.StopLemmas.{live_absent, live_damaged, short_of}
+use Rattle.cs_top.proofs.StopLemmas.{live_absent, live_damaged, live_first, live_second, live_unopened, short_of}
 use Rattle.cs_top.proofs.live.live_script.Given as given
 use Rattle.cs_top.proofs.live.live_script.Goals as goal
 use Rattle.cs_top.proofs.live.live_script.Goals.{After-answer_lines}
@@ -52,6 +52,31 @@ is_open g c h held =
       able = ((held_by _ _ (c.in_ok-size.ensures.ok h held), held_by _ _ (c.in_ok-script_size.ensures.ok h first)), over.live.stands.accepted);
       over = over;
     }
+
+-- before the script nothing is put
+abbrev unput : (g : given.Over) → g.row.O.Denot → Wrote
+unput g out = wrote g.O.Sink.written g.O.Sink.faults out out
+
+pub returns-in_err-size-clause-told : goal.returns-in_err-size-clause-told
+returns-in_err-size-clause-told g c h held =
+    let all = live_first h c.args.index.now c.args.script.now (g.F.Files.faults c.args.files.now) (g.F.Files.faults c.told_size.new.files) (unput g c.args.out.now) refl c.in_err-size.field-0.0
+    c.in_err-size.ensures.absence (c.in_err-size.ensures.missing h held) in
+    search rules
+
+pub returns-in_err-script_size-clause-told : goal.returns-in_err-script_size-clause-told
+returns-in_err-script_size-clause-told g c h held =
+    let first : g.F.Files.held c.told_size.new.files ≡ Some h = c.in_ok-size.ensures.reads.files ∙ held in
+    let all = live_second h c.args.index.now c.args.script.now (g.F.Files.faults c.args.files.now) (g.F.Files.faults c.told_size-2.new.files) (unput g c.args.out.now) refl c.in_err-script_size.field-0.0
+    (held_by _ _ (c.in_ok-size.ensures.ok h held)) c.in_err-script_size.ensures.absence (c.in_err-script_size.ensures.missing h first) in
+    search rules
+
+pub returns-in_err-live-clause-told : goal.returns-in_err-live-clause-told
+returns-in_err-live-clause-told g c h held =
+    let first : g.F.Files.held c.told_size.new.files ≡ Some h = c.in_ok-size.ensures.reads.files ∙ held in
+    let second : g.F.Files.held c.told_size-2.new.files ≡ Some h = c.in_ok-script_size.ensures.reads.files ∙ first in
+    let all = live_unopened h c.args.index.now c.args.script.now (g.F.Files.faults c.args.files.now) (g.F.Files.faults c.open_live.new.files) (unput g c.args.out.now) refl c.in_err-live.field-0.0
+    (held_by _ _ (c.in_ok-size.ensures.ok h held), held_by _ _ (c.in_ok-script_size.ensures.ok h first)) c.in_err-live.ensures.kind (c.in_err-live.ensures.damaged h second) in
+    search rules
 
 -- how the script ended is how the run ended
 told : (g : given.Over) (c : After-answer_lines g) (h : Held) → g.F.Files.held c.args.files.now ≡ Some h → (e : Ending)
@@ -108,10 +133,6 @@ returns-in-Ok-Changed-clause-told g c h held =
 put_by : (g : given.Over) (c : After-answer_lines g) (x y : WhatCame) → c.answer_lines.result ≡ Ok x → x ≡ y → PutsTextsOf IsLiveText y (g.O.Sink.written c.args.out.now) (g.O.Sink.written c.answer_lines.new.out)
 put_by g c x y is same =
     ok_there c.answer_lines.result x y (λ came. PutsTextsOf IsLiveText came (g.O.Sink.written c.args.out.now) (g.O.Sink.written c.answer_lines.new.out)) is same c.answer_lines.ensures.puts
-
--- before the script nothing is put
-abbrev unput : (g : given.Over) → g.row.O.Denot → Wrote
-unput g out = wrote g.O.Sink.written g.O.Sink.faults out out
 
 pub returns-in_err-size-clause-ends : goal.returns-in_err-size-clause-ends
 returns-in_err-size-clause-ends g c =
