@@ -1,6 +1,8 @@
 -- The words that an atom asks for, and the blocks that hold them.
 --
 --   word_span, no_span      a word that is there, and one that isn't
+--   filter_less             what passes another test too is no less
+--   met_holds               each block that is met for some words holds one of them
 --   prefix_met, word_met    how many blocks hold such words
 use Rattle.std.proofs.Common.{◌≡◌, ℕ, suc, ◌+◌, ◌-◌, ◌<◌, ◌≤◌, ◌&&◌, max, Bool, true, false, cond, List, [], ◌∷◌, length, get_or, drop, refl, sym, ap}
 use Rattle.std.proofs.Common.{subst, ◌∙◌, arith, length-take, length-drop, get_or-drop, get_or-take, if◌then◌else◌}
@@ -19,6 +21,7 @@ use Rattle.cs_model_kept.specs.Due.{block_words, met_prefix, met_word}
 use Rattle.cs_vocab.specs.Ranges.{IsWordAt, IsRange}
 use Rattle.cs_engine.specs.Asking.{division}
 use Rattle.cs_engine.specs.IndexReading.{IsSpanOf}
+use Rattle.cs_engine.specs.Stocked.{HoldsBetween}
 use Rattle.cs_model_index.specs.Numbered.{word_at}
 use Rattle.cs_engine.proofs.AtomsLemmas.{span_word, span_none}
 
@@ -33,7 +36,7 @@ pub word_there : (ws : List (List ℕ)) (n : ℕ) (w : List ℕ) → IsWordAt ws
 word_there ws n w at = list_any_at (bytes_eq w) ws n [] at.0 (ap (bytes_eq w) at.1 ∙ name_itself w)
 
 -- ---- blocks
-filter_less : {X : Type 0} (p q : X → Bool) (xs : List X) → All (λ x. p x ≡ true → q x ≡ true) xs → length (filter p xs) ≤ length (filter q xs)
+pub filter_less : {X : Type 0} (p q : X → Bool) (xs : List X) → All (λ x. p x ≡ true → q x ≡ true) xs → length (filter p xs) ≤ length (filter q xs)
 filter_less {X} p q xs h = by xs (recursion_from_All (λ x. p x ≡ true → q x ≡ true) xs h)
   where
     by : (xs : List X) → AllByRecursion (λ x. p x ≡ true → q x ≡ true) xs → length (filter p xs) ≤ length (filter q xs)
@@ -63,24 +66,29 @@ met_parts lo hi h e = (low lo hi h.lo (h.lo + h.words) e, middle lo hi h.lo (h.l
 in_turn : (lo n hi : ℕ) → lo ≤ n → n < hi → (nat_le lo n && nat_lt n hi) ≡ true
 in_turn lo n hi a b = grind (arith, nat_tests)
 
-pub prefix_met : (i : IndexView) → IsIndex i → (p : List ℕ) (lo hi : ℕ) → IsRange i.words p lo hi
-    → length (filter (is_met lo hi) i.heads) ≤ met_prefix (division i) p
-prefix_met i is p lo hi range = filter_less (is_met lo hi) (λ h. list_any (begins p) (block_words (division i) h)) i.heads (λ k d l e.
+-- each block that is met for the words that pass a test holds one of them
+pub met_holds : (i : IndexView) → IsIndex i → (test : List ℕ → Bool) (lo hi : ℕ) → HoldsBetween i.words test lo hi → hi ≤ length i.words
+    → All (λ h. is_met lo hi h ≡ true → list_any test (block_words (division i) h) ≡ true) i.heads
+met_holds i is test lo hi holds within k d l e =
     let h = get_or i.heads k d in
     let met = met_parts lo hi h e in
     let ends = head_within i is k d l in
     let filled = head_filled i is k d l in
     let n = max lo h.lo in
     let at : h.lo + (n - h.lo) ≡ n = omega arith in
-    let within = range.within in
     let here : n < length i.words = omega (arith, met.1, met.2, within) in
-    let own : begins p (word_at i.words n) ≡ true = range.holds n here ∙ in_turn lo n hi (omega arith) (omega (arith, met.1, met.2)) in
+    let own : test (word_at i.words n) ≡ true = holds n here ∙ in_turn lo n hi (omega arith) (omega (arith, met.1, met.2)) in
     let place : n - h.lo < h.words = omega (arith, met.0, filled) in
     let l1 = length-take h.words (drop h.lo i.words) in
     let l2 = length-drop h.lo i.words in
     let there : get_or (block_words (division i) h) (n - h.lo) [] ≡ word_at i.words n = get_or-take h.words (drop h.lo i.words) (n - h.lo) [] place
     ∙ get_or-drop h.lo i.words (n - h.lo) [] ∙ ap (word_at i.words) at in
-    list_any_at (begins p) (block_words (division i) h) (n - h.lo) [] (omega (arith, l1, l2, place, ends)) (ap (begins p) there ∙ own))
+    list_any_at test (block_words (division i) h) (n - h.lo) [] (omega (arith, l1, l2, place, ends)) (ap test there ∙ own)
+
+pub prefix_met : (i : IndexView) → IsIndex i → (p : List ℕ) (lo hi : ℕ) → IsRange i.words p lo hi
+    → length (filter (is_met lo hi) i.heads) ≤ met_prefix (division i) p
+prefix_met i is p lo hi range =
+    filter_less (is_met lo hi) (λ h. list_any (begins p) (block_words (division i) h)) i.heads (met_holds i is (begins p) lo hi range.holds range.within)
 
 -- blocks that lie one behind the other
 abbrev AreApart : List BlockHead → Type 0

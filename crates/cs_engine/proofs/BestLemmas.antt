@@ -32,7 +32,7 @@ use Rattle.cs_base.specs.declared.content.scores.Weights.{Weights}
 use Rattle.cs_base.proofs.MembersLemmas.{members_are}
 use Rattle.cs_base.proofs.OrdersLemmas.{Less-from_lt}
 use Rattle.cs_file.specs.CallAnswers.{AreScoredOf}
-use Rattle.cs_rank.specs.DocScores.{greatest, of_doc, best_row, doc_scores}
+use Rattle.cs_rank.specs.DocScores.{greatest, of_doc, best_row}
 use Rattle.cs_tables.specs.WordCounts.{is_chosen, is_of_listed}
 use Rattle.cs_engine.specs.Loose.{best_of, HasBestScores, hits_in}
 use Rattle.cs_engine.specs.Packing.{post_of_key}

@@ -4,6 +4,7 @@
 --   linked_reads, joined_reads, met_part-is, met_query-is      the blocks of a level by those of what it holds
 --   entry_begins, entry_by_hits, entry_ends     the entry of the parts so far
 --   hits_go_on, hits_end        their hits
+--   no_rows, nothing_chained    behind no row there is none
 --   chain_goes_on, chain_ends, chain_stops     the rows that the links so far lead to
 --   linked_within        what is linked is in range
 --   joined_rows, none_shared      the rows of a join, by those of its name; none where its inner query has no hit
@@ -171,7 +172,7 @@ module _ (s : Stock) (ps : List Part) where
   entry_ends q i e are l so_far = so_far ∙ ap (λ xs. entry k (map (rows_of_part k) xs)) (take_all i ps l ∙ are) ∙ ap (entry k) (sym (parts_read k q))
 
 -- ---- links
-no_rows : (rows : List Post) → length rows ≡ 0 → rows ≡ []
+pub no_rows : (rows : List Post) → length rows ≡ 0 → rows ≡ []
 no_rows [] none = refl
 no_rows (r ∷ rows) none = absurd (omega (arith, none))
 
@@ -182,7 +183,7 @@ nothing_linked Near [] = refl
 nothing_linked Near (r ∷ rows) = nothing_linked Near rows
 
 -- behind no row there is none
-nothing_chained : (ls : List LinkedRows) → chained [] ls ≡ []
+pub nothing_chained : (ls : List LinkedRows) → chained [] ls ≡ []
 nothing_chained [] = refl
 nothing_chained (l ∷ ls) = ap (λ x. chained x ls) (nothing_linked l.link l.rows) ∙ nothing_chained ls
 

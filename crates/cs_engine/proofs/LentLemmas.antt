@@ -1,11 +1,12 @@
 -- What is lent to a plan, and the reads that a plan leaves.
 --
 --   same_lent, extend_lent, narrow_lent      the entry that is lent is in range, and over the bytes the one that the plan speaks of
+--   several_parts        a part more is one of several
 --   narrow_typed         a prefix is being typed, and the rows that are lent are in range
 --   refusal_right        a refusal over the bytes of the index
 --   same_after           what is kept after a reply, whatever is held
 --   err_due              the titles that may be read where there is no reply
-use Rattle.std.proofs.Common.{◌≡◌, ℕ, ◌+◌, ◌≤◌, List, length, refl, sym, ap, subst, ◌∙◌, arith, Option, Some, None, IsSome}
+use Rattle.std.proofs.Common.{◌≡◌, ℕ, ◌+◌, ◌≤◌, ◌<◌, List, length, refl, sym, ap, subst, ◌∙◌, arith, Option, Some, None, IsSome}
 use Rattle.std.specs.Prelude.{filter, IfSome, Result, Ok, Err}
 use Rattle.std.specs.Result.{IsErr}
 use Rattle.cs_base.specs.declared.content.doc.Base.{Base}
@@ -72,6 +73,11 @@ module _ {i : IndexView} {held : KeptOf (EntryOf Post)} {q : Query} {keys : Keys
         subst (FitsQuery i (before_last q)) v.same fits.1,
         λ k good. subst (IsEntryOver k i (before_last q)) v.same (extend_told k i held good q g v.kept (plan_of Extend same) v.found),
       )
+
+  pub several_parts : by_plan ≡ Extend → 1 < length (out-Query q).parts
+  several_parts same =
+      let v = lent_by Extend same (λ f. let no : Extend ≡ Fresh = f in cc) in
+      (extend_fits i held planned.fit q g v.kept v.found).0
 
   not_fresh : (cut : ℕ) → ¬ (Narrow cut ≡ Fresh)
   not_fresh cut f = cc

@@ -39,3 +39,10 @@ pub mod OpenedLemmas
 pub mod OverSources
 pub mod ChosenLemmas
 pub mod FacetTables
+pub mod NoHitLemmas
+pub mod SkippingLemmas
+pub mod RestrictLemmas
+pub mod InsideLemmas
+pub mod ExtendingLemmas
+pub mod BoundedBlocks
+pub mod SharpReads

@@ -8,7 +8,7 @@ use Rattle.std.proofs.Common.{◌≡◌, ℕ, ◌<◌, Bool, ◌&&◌, true, Lis
 use Rattle.std.proofs.Common.{append-nil}
 use Rattle.std.specs.Prelude.{All, Result, filter}
 use Rattle.std.specs.List.{list_any, range_with_len}
-use Rattle.std.specs.Str.{IsUtf8, is_utf8}
+use Rattle.std.specs.Str.{IsUtf8, bytes_eq, is_utf8}
 use Rattle.std.proofs.lemmas.Bool.{and_parts}
 use Rattle.std.proofs.lemmas.Str.{IsUtf8-from_is_utf8}
 use Rattle.std.proofs.lemmas.List.{length-replicate}
@@ -24,6 +24,7 @@ use Rattle.cs_model_index.specs.Images.{image_posts}
 use Rattle.cs_model_index.specs.Sections.{file_corpus, image_of}
 use Rattle.cs_tables.specs.WordCounts.{AreCountable}
 use Rattle.cs_file.specs.declared.fault.FetchFault.{FetchFault}
+use Rattle.cs_model.specs.Answers.{begins}
 use Rattle.cs_model.specs.Replies.{Reply}
 use Rattle.cs_model.specs.Requests.{Request}
 use Rattle.cs_engine.specs.Counting.{counted_rows}
@@ -33,7 +34,8 @@ use Rattle.cs_engine.specs.declared.note.Note.{Note}
 use Rattle.cs_engine.specs.Sources.{IsIn, IsSource, IsTold, source_of}
 use Rattle.cs_engine.specs.Stocked.{corpus_in, title_at}
 use Rattle.cs_engine.proofs.AlikeLemmas.{any_filter}
-use Rattle.cs_engine.proofs.AskedWords.{prefix_met, word_met}
+use Rattle.cs_engine.proofs.AskedWords.{met_holds, prefix_met, word_met}
+use Rattle.cs_engine.proofs.BoundedBlocks.{blocks_bounded}
 use Rattle.cs_engine.proofs.CountingLemmas.{countable, whole_apart}
 use Rattle.cs_engine.proofs.DistinctLemmas.{long_alike}
 use Rattle.cs_engine.proofs.ListedLemmas.{keys_numbered}
@@ -65,6 +67,7 @@ module _ (i : IndexView) (is : IsIndex i) where
       docs = present_all i.docs ∙ ap (range_with_len 0) (docs_are b i stands is) ∙ sym (keys_numbered (image_of b).titles);
       words = words_are b i stands is;
       count = stood_count b i stands;
+      lie = λ k h lt. blocks_bounded b i stands k h lt;
       alike = λ t. ap (list_any t) (append-nil flat) ∙ flat_alike t;
       long = λ t. ap (λ ps. length (filter t ps)) (append-nil flat) ∙ flat_long t;
       run = λ lo hi first last met. posts_between b i stands is lo hi first last met;
@@ -84,6 +87,8 @@ module _ (i : IndexView) (is : IsIndex i) where
     held = All-nil (IsIn (source_of i));
     prefix_met = λ p lo hi range. prefix_met i is p lo hi range;
     word_met = λ w lo hi span short none. word_met i is w lo hi short none;
+    prefix_held = λ p lo hi range. met_holds i is (begins p) lo hi range.holds range.within;
+    word_held = λ w lo hi span. met_holds i is (λ x. bytes_eq x w) lo hi span.holds span.within;
     told = opened_told;
   }
 

@@ -4,7 +4,7 @@
 --   is_used              each plan but Fresh uses one
 --   narrowed_rows        the rows of the words from one number up to another are those of the prefix that has these words
 --   IsLast q x, is_last      the part x is the last one of the query q
---   ends_first, ends_last, first_in, first_base, more_told, more_fits, last_met      one part more
+--   ends_first, ends_last, first_in, first_base, more_told, more_fits, last_met, last_hit      one part more
 --   first_parts, more_by_words, all_met      the entry of the first parts, and of all by the last one's words
 --   nothing_own, nothing_over        the entry of a query without a part
 --   hits_are_in, found_by_entry      the hits of the query's own entry
@@ -44,6 +44,7 @@ use Rattle.cs_engine.specs.Keeping.{FitsQuery, IsEntryOver, IsPlanned, entry_wit
 use Rattle.cs_engine.specs.Loose.{IsEntryByWords}
 use Rattle.cs_engine.specs.Plain.{AreWordsOf}
 use Rattle.cs_engine.specs.IndexReading.{AreWithin, IsWithin}
+use Rattle.cs_engine.specs.Skipping.{hit_of_last, hit_of_part}
 use Rattle.cs_engine.specs.Sources.{IsSource, SourceView, seen}
 use Rattle.cs_engine.specs.Steps.{AreFound, AreHitsOver, EntryFits, IsBaseOf, IsStep, end_positive, last_is_positive, most, posts_hits}
 use Rattle.cs_engine.specs.Stocked.{corpus_in, stock_docs, is_between, base_posts}
@@ -99,6 +100,9 @@ is_last {x = x} some are at = record { some = some; at = at ∙ ap (λ (xs : Lis
 
 pub last_met : (v : Division) {q : Query} {x : Part} → IsLast q x → met_of_last v (last_of (out-Query q).parts) ≡ met_of_part v x
 last_met v {q = q} {x = x} l = ap (met_of_last v) (last_is (out-Query q).parts x l.some l.at)
+
+pub last_hit : (v : Division) (b : Base) {q : Query} {x : Part} → IsLast q x → hit_of_last v b (last_of (out-Query q).parts) ≡ hit_of_part v b x
+last_hit v b {q = q} {x = x} l = ap (hit_of_last v b) (last_is (out-Query q).parts x l.some l.at)
 
 module _ (q : Query) where
   abbrev ps : List Part

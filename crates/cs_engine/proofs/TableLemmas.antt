@@ -36,10 +36,10 @@ use Rattle.cs_engine.proofs.VocabLemmas.{apart, is_less, less_word}
 
 -- ---- orders
 
-by_count_total : IsTotalOrder by_count
+pub by_count_total : IsTotalOrder by_count
 by_count_total = then_total (on_total (λ c. c.docs) (back_total nat_cmp_total)) (on_total (λ c. c.word) nat_list_cmp_total)
 
-by_count_exact : IsAntisymmetric by_count
+pub by_count_exact : IsAntisymmetric by_count
 by_count_exact a b h =
     ap (λ (p : ℕ × List ℕ). let c : rows.Completion = record { docs = p.0; word = p.1 } in c)
     (exact_pairs (flip_args nat_cmp) (slice_cmp nat_cmp) (λ x y e. sym (exact_unsigned y x e)) exact_bytes (a.docs, a.word) (b.docs, b.word) h)

@@ -14,7 +14,7 @@
 --   walk_ends       what was read of all blocks
 --   ListWalk        after the first n members of a list, of which x reads f x blocks at most
 --   list_begins     before the first
---   list_goes_on    after one more
+--   list_goes_on, list_skips     after one more, which was read or not
 --   list_stops      what was read where the next one fails
 use Rattle.std.proofs.Common.{◌≡◌, ℕ, ◌+◌, ◌-◌, ◌<◌, ◌≤◌, List, length, map, drop, get_or, Option, Result, Ok, Err, refl, sym, ap, subst, ◌∙◌, arith, inl, inr}
 use Rattle.std.specs.Prelude.{filter, sum}
@@ -195,6 +195,9 @@ module _ {S L X : Type 0} {tells : S → Option (List ℕ)} {lends : S → L} {f
         later = (let l = few.later in omega (arith, l, w.later));
         reads = (let r = few.within in omega (arith, r, w.reads, left));
       }
+
+  pub list_skips : ListWalk tells lends fails counts i f xs all old now (n + 1)
+  list_skips = let left = next_left f xs n x l is in record { store = w.store; later = w.later; reads = omega (arith, w.reads, left) }
 
   pub list_stops : {next : S} → ReadsWithin (f x) (counts now) (counts next) → ReadsWithin all (counts old) (counts next)
   list_stops few =

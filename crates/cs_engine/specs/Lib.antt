@@ -13,3 +13,5 @@ pub mod Spans
 pub mod HeldRanges
 pub mod Finding
 pub mod Sources
+pub mod Skipping
+pub mod Restricting

@@ -2,13 +2,16 @@
 --
 -- Source: this engine's own.
 --
+--   AreSharp v count lo hi         whatever the hits are, no more blocks that they reach hold these words than are counted
 --   AreWordsOf v met rows lo hi    what asks for these rows, in blocks of which so many may be read, asks for the words of a source
 --                                  from number lo up to hi
 use Rattle.std.specs.Prelude.{ℕ, ◌≤◌, List, filter, length}
+use Rattle.cs_base.specs.declared.content.doc.Base.{Base}
 use Rattle.cs_base.specs.declared.content.doc.Row.{Row}
 use Rattle.cs_file.specs.Indexes.{StandsFor}
 use Rattle.cs_model.specs.Corpus.{Corpus}
 use Rattle.cs_engine.specs.IndexReading.{HasRows}
+use Rattle.cs_engine.specs.Skipping.{hit_met}
 use Rattle.cs_engine.specs.Sources.{SourceView, met_in}
 use Rattle.cs_engine.specs.Stocked.{corpus_in, is_between}
 
@@ -18,3 +21,7 @@ pub record AreWordsOf (v : SourceView) (met : ℕ) (rows : Corpus → List Row) 
   pub within : hi ≤ length v.words
   pub few : met_in v lo hi ≤ met
   pub posts : (b : List ℕ) → StandsFor b v.index → HasRows (v.stock b) (rows (corpus_in (v.stock b))) (filter (is_between lo hi) (v.stock b).posts)
+
+-- by each base
+abbrev pub AreSharp : SourceView → (Base → ℕ) → ℕ → ℕ → Type 0
+AreSharp v count lo hi = (b : Base) → hit_met v b lo hi ≤ count b

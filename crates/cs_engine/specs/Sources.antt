@@ -7,13 +7,14 @@
 --   seen v               the index with the source's documents and words, for what is said of rows in range
 --   source_of i          an opened index as a source
 --   met_in v lo hi       how many blocks hold a word from number lo up to hi
+--   HoldMet v lo hi test     each of these blocks holds a word of the index that passes
 --   all_rows v b          the rows of all blocks, one block behind the other, and the rows in memory behind them
 --   is_there present p   the post's document is there
 --   IsIn v p             a row in memory is in range, and its document is there
 --   IsTold v b           what always holds of rows over the bytes of the index
 --   IsSource v           what always holds of a source
 --   CanRead told v       it is one, and a store that tells has all its blocks
-use Rattle.std.specs.Prelude.{◌≡◌, ℕ, ◌+◌, ◌-◌, ◌≤◌, Bool, true, false, List, [], ◌++◌, length, filter, flat_map, take, drop, replicate, slice_index_or}
+use Rattle.std.specs.Prelude.{◌≡◌, ℕ, ◌+◌, ◌-◌, ◌≤◌, ◌<◌, Bool, true, false, List, [], ◌++◌, length, filter, flat_map, take, drop, replicate, slice_index_or}
 use Rattle.std.specs.Prelude.{Option}
 use Rattle.std.specs.List.{All, list_any}
 use Rattle.std.specs.List.Sorted.{IsStrictlySortedBy}
@@ -22,10 +23,13 @@ use Rattle.std.specs.Cmp.Lexicographic.{slice_cmp}
 use Rattle.std.specs.Str.{IsUtf8, bytes_eq}
 use Rattle.cs_base.specs.declared.content.doc.Post.{Post}
 use Rattle.cs_base.specs.declared.content.limits.TheConstants.{MAX_DOCS, MAX_WORDS}
+use Rattle.cs_base.specs.declared.index.block.BlockHead.{BlockHead}
 use Rattle.cs_file.specs.CallAnswers.{IsRanged}
 use Rattle.cs_file.specs.Indexes.{AreMet, HasAllBlocks, IndexView, IsIndex, StandsFor, is_met}
 use Rattle.cs_model_index.specs.Sections.{image_of}
-use Rattle.cs_model_kept.specs.Due.{met_prefix, met_word}
+use Rattle.cs_model.specs.Answers.{begins}
+use Rattle.cs_model_kept.specs.Due.{block_words, met_prefix, met_word}
+use Rattle.cs_model_kept.specs.Sharp.{lies_in}
 use Rattle.cs_tables.specs.WordCounts.{AreCountable, is_chosen}
 use Rattle.cs_vocab.specs.Ranges.{IsRange}
 use Rattle.cs_engine.specs.Asking.{division}
@@ -74,6 +78,10 @@ source_of i = record {
 abbrev pub met_in : SourceView → ℕ → ℕ → ℕ
 met_in v lo hi = length (filter (is_met (v.before lo) (v.before hi)) v.index.heads)
 
+-- of no blocks it holds
+abbrev pub HoldMet : SourceView → ℕ → ℕ → (List ℕ → Bool) → Type 0
+HoldMet v lo hi test = All (λ h. is_met (v.before lo) (v.before hi) h ≡ true → list_any test (block_words (division v.index) h) ≡ true) v.index.heads
+
 -- in no order
 abbrev pub all_rows : SourceView → List ℕ → List Post
 all_rows v b = flat_map (λ block. block) (v.blocks b) ++ v.held
@@ -87,13 +95,15 @@ pub record IsIn (v : SourceView) (p : Post) : Type 0 where
   pub there : is_there v.present p ≡ true
   pub ranged : IsRanged (seen v) p
 
--- the documents are those that are there; the rows have the members of the stock's, each once; the blocks that hold some words have all their
--- rows in blocks; and rows of blocks and memory can be counted together
+-- the documents are those that are there; the rows have the members of the stock's, each once; those of a block lie from its least document to
+-- its greatest; the blocks that hold some words have all their rows in blocks; and rows of blocks and memory can be counted together
 pub record IsTold (v : SourceView) (b : List ℕ) : Type 0 where
   pub stocked : IsStocked (v.stock b)
   pub docs : present_docs v.present ≡ stock_docs (v.stock b)
   pub words : v.words ≡ (v.stock b).words
   pub count : length (v.blocks b) ≡ length v.index.heads
+  pub lie : (k : ℕ) (h : BlockHead) → k < length v.index.heads
+      → All (λ p. lies_in (slice_index_or v.index.heads k h) p.doc ≡ true) (slice_index_or (v.blocks b) k [])
   pub alike : (t : Post → Bool) → list_any t (all_rows v b) ≡ list_any t (v.stock b).posts
   pub long : (t : Post → Bool) → length (filter t (all_rows v b)) ≡ length (filter t (v.stock b).posts)
   pub run : (lo hi first last : ℕ) → AreMet v.index.heads (v.before lo) (v.before hi) first last
@@ -103,7 +113,7 @@ pub record IsTold (v : SourceView) (b : List ℕ) : Type 0 where
       → AreCountable (counted_rows (v.blocks b) first last lo hi listed ++ filter (is_chosen lo hi listed) v.held)
 
 -- whatever store it is read from, and over the bytes that its index stands for; no more blocks hold words that begin alike, or a word, than the
--- index has of them
+-- index has of them, and each of these holds one of the index
 pub record IsSource (v : SourceView) : Type 0 where
   pub index : IsIndex v.index
   pub few_docs : v.docs ≤ MAX_DOCS
@@ -115,6 +125,8 @@ pub record IsSource (v : SourceView) : Type 0 where
   pub prefix_met : (p : List ℕ) (lo hi : ℕ) → IsRange v.words p lo hi → met_in v lo hi ≤ met_prefix (division v.index) p
   pub word_met : (w : List ℕ) (lo hi : ℕ) → IsSpanOf v.words (λ x. bytes_eq x w) lo hi → hi ≤ lo + 1 → (list_any (bytes_eq w) v.words ≡ false → lo ≡ hi)
       → met_in v lo hi ≤ met_word (division v.index) w
+  pub prefix_held : (p : List ℕ) (lo hi : ℕ) → IsRange v.words p lo hi → HoldMet v lo hi (begins p)
+  pub word_held : (w : List ℕ) (lo hi : ℕ) → IsSpanOf v.words (λ x. bytes_eq x w) lo hi → HoldMet v lo hi (λ x. bytes_eq x w)
   pub told : (b : List ℕ) → StandsFor b v.index → IsTold v b
 
 -- whatever store it was opened over

@@ -4,7 +4,7 @@
 --
 --   Stock                  titles by document number, words and posts
 --   corpus_in s            the corpus of a stock
---   stock_docs s              the numbers of its documents
+--   stock_docs s           the numbers of its documents
 --   present_docs present   the numbers that are those of documents
 --   IsKnown s p            the post's document and word are there
 --   IsStocked s            what always holds of what is read of an index

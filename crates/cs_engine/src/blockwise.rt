@@ -5,10 +5,11 @@ ghost use Rattle.cs_base.specs.{declared.content.limits.TheConstants.{MAX_PARTS}
 ghost use Rattle.cs_base.specs.outside.Causes.{ReadsWithin};
 ghost use Rattle.cs_file.specs.Indexes.{IsIndex};
 ghost use Rattle.cs_engine.specs.{Blockwise.{AreMany, HasFound, rows_within}, Counting.{AreListed}, GatheredRows.{HasGathered}};
-ghost use Rattle.cs_engine.specs.{IndexReading.{IsWordRange, OnlyReads, WhereStood}, Sources.{CanRead, seen, source_of}};
+ghost use Rattle.cs_engine.specs.{IndexReading.{IsWordRange, OnlyReads, WhereStood}, Skipping.{hit_blocks}, Sources.{CanRead, seen, source_of}};
 ghost use Rattle.cs_engine.specs.{Steps.{IsBaseOf}, Stocked.{is_between, base_posts}};
 
 use crate::best::{blank_table, raise_held, raise_keys, raise_rows, scored_in};
+use crate::bounds::may_hit;
 use crate::chosen::count_chosen;
 use crate::counting::count_keys;
 use crate::gathering::GatheredKeys;
@@ -48,7 +49,7 @@ fn rows_within(head: &BlockHead, words: (u32, u32)) -> u64
 }
 
 /// The documents of hits that have a row of these words, with their scores, and these words, counted in the rows of these documents. What
-/// was gathered of the first blocks isn't read again, and each other block that holds such a word is read once.
+/// was gathered of the first blocks isn't read again, and each other block that holds such a word and that a hit reaches is read once.
 pub(crate) fn found_behind<I: Source, S: Store>(
     alloc: Global,
     index: &I,
@@ -70,7 +71,8 @@ pub(crate) fn found_behind<I: Source, S: Store>(
     ensures base { IfOk result (λ found. IsBaseOf (I.view index.now).docs (MAX_ROW_SCORE * MAX_PARTS) found.0) }
     ensures words { IfOk result (λ found. found.1.high ≡ words.1) }
     ensures store { OnlyReads S.bytes S.lent S.faults (I.view index.now).index store.old store.new result }
-    ensures reads { ReadsWithin (gathered.now.last - gathered.now.next) (S.reads store.old) (S.reads store.new) }
+    ensures reads { ReadsWithin (hit_blocks hits.now (I.view index.now).index.heads gathered.now.next gathered.now.last)
+        (S.reads store.old) (S.reads store.new) }
 {
     let mut counts = WordCounts::new(alloc, words.0, words.1)?;
     count_keys(&mut counts, &gathered.keys);
@@ -78,6 +80,9 @@ pub(crate) fn found_behind<I: Source, S: Store>(
     raise_keys(&mut best, index.weights(), &gathered.keys);
     let mut block = Fetched::new(alloc);
     for k in gathered.next..gathered.last {
+        if !may_hit(hits, index.head(k)) {
+            continue;
+        }
         index.fetch_scored(alloc, store, k, &mut block)?;
         counts.add_rows(&block.docs, &block.words, listed);
         raise_rows(&mut best, words, listed, &block);

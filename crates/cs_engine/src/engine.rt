@@ -8,7 +8,7 @@ ghost use Rattle.cs_file.specs.Indexes.{HasAllBlocks, StandsFor, CausedReads};
 ghost use Rattle.cs_file.specs.declared.fault.FetchFault.TheVariants as fetches;
 ghost use Rattle.cs_model.specs.{Parameters.{HoldsLimits}, Requests.{reply_of}};
 ghost use Rattle.cs_model_index.specs.Sections.{file_corpus};
-ghost use Rattle.cs_model_kept.specs.{Due.{due}, declared.limits.TheConstants.{MAX_ENTRIES}};
+ghost use Rattle.cs_model_kept.specs.{Due.{due}, Sharp.{sharp}, declared.limits.TheConstants.{MAX_ENTRIES}};
 ghost use Rattle.cs_query.specs.RequestView.{asked};
 ghost use Rattle.cs_engine.specs.{Asking.{IsChangeIn, division, titles_asked}, HeldRanges.{range_bytes}, declared.held.TheConstants.{MAX_HELD_BYTES}};
 ghost use Rattle.cs_engine.specs.Keeping.{AreGood, IsAfter, KeepsAnswers, note_plan};
@@ -88,6 +88,11 @@ impl Engine {
         ensures after { ForSome (S.bytes store.old) (λ b. StandsFor b self.old.index → AreGood b self.old
             → IsAfter b request.now.query self.old result self.new) }
         ensures unchanged { ForSome (S.bytes store.old) (λ b. StandsFor b self.old.index → is_changed result ≡ false) }
+
+        // And no block of the last part that none of the hits before it reaches is read, nor one of a facet that no hit reaches.
+        ensures sharp { ForSome (S.bytes store.old) (λ b. StandsFor b self.old.index → AreGood b self.old
+            → ReadsWithin (sharp (division self.old.index) (file_corpus b) (asked request.now) (note_plan request.now.query self.old.answers)
+            (titles_asked (asked request.now) result)) (S.reads store.old) (S.reads store.new)) }
 
         // Over each store: how much is shown, what is kept, what is left as it was, how much is read, and why it is refused. A change
         // that is told is the first rule that the bytes of a block or a title break, with its place.

@@ -16,9 +16,9 @@ use cs_file::FetchFault;
 use cs_join::shared;
 use std::alloc::Global;
 
-/// The rows of a part: those of some of its chains, each once.
+// The rows of a part: those of some of its chains, each once.
 #[cycle(evaluation)]
-pub(crate) fn rows_of_part<I: Source, S: Store>(
+fn rows_of_part<I: Source, S: Store>(
     alloc: Global,
     index: &I,
     store: &mut S,
@@ -69,9 +69,9 @@ fn rows_of_chain<I: Source, S: Store>(
     Ok(found)
 }
 
-// The rows of an atom. Those of a join share their word with a row in a hit of the query in its bracket.
+/// The rows of an atom. Those of a join share their word with a row in a hit of the query in its bracket.
 #[cycle(evaluation)]
-fn rows_of_atom<I: Source, S: Store>(
+pub(crate) fn rows_of_atom<I: Source, S: Store>(
     alloc: Global,
     index: &I,
     store: &mut S,

@@ -2,7 +2,7 @@
 ghost use Rattle.std.specs.Prelude.{◌≡◌, false, true, is_some, IfOk};
 ghost use Rattle.std.specs.List.{All};
 ghost use Rattle.cs_base.specs.outside.Causes.{ReadsWithin};
-ghost use Rattle.cs_model_kept.specs.{Due.{met_by, met_of_query}, KeptList.{is_same}};
+ghost use Rattle.cs_model_kept.specs.{Due.{met_by, met_of_query}, KeptList.{is_same}, Sharp.{sharp_by}};
 ghost use Rattle.cs_engine.specs.{Asking.{division}, Finding.{CanFind, FitsFound, IsFoundAnew, IsFoundOver}};
 ghost use Rattle.cs_engine.specs.{HeldRanges.{AreHeldOver, FitsRange, OnlyGoes}, IndexReading.{OnlyReads, WhereStood}, Keeping.{HoldsGood, IsPlanned}};
 ghost use Rattle.cs_engine.specs.{Sources.{seen}, Stocked.{corpus_in}};
@@ -42,6 +42,10 @@ pub(crate) fn find_by<I: Source, S: Store>(
     ensures held { OnlyGoes held.old held.new }
     ensures store { OnlyReads S.bytes S.lent S.faults (I.view over.entry.index.now).index store.old store.new result }
     ensures reads { ReadsWithin (met_by (division (I.view over.entry.index.now).index) over.entry.query.now plan) (S.reads store.old) (S.reads store.new) }
+    ensures sharp { WhereStood (S.bytes store.old) (I.view over.entry.index.now).index
+        (λ b. HoldsGood (corpus_in ((I.view over.entry.index.now).stock b)) (seen (I.view over.entry.index.now)) answers.now.entries
+        → ReadsWithin (sharp_by (division (I.view over.entry.index.now).index) (corpus_in ((I.view over.entry.index.now).stock b)) over.entry.query.now plan)
+        (S.reads store.old) (S.reads store.new)) }
 {
     match plan {
         Plan::Same => {

@@ -5,28 +5,30 @@ ghost use Rattle.std.specs.List.{All};
 ghost use Rattle.cs_base.specs.declared.content.limits.TheConstants.{MAX_PARTS};
 ghost use Rattle.cs_base.specs.{outside.Causes.{ReadsWithin}, declared.content.scores.TheConstants.{MAX_ROW_SCORE}, declared.content.query.Query.{out-Query}};
 ghost use Rattle.cs_model.specs.Keys.{last_of};
-ghost use Rattle.cs_model_kept.specs.{Due.{met_of_last}, KeptListLaws.{before_last}};
+ghost use Rattle.cs_model_kept.specs.KeptListLaws.{before_last};
 ghost use Rattle.cs_engine.specs.{Asking.{division}, Counting.{AreListed}, Finding.{CanFind, FitsFound, IsFoundAnew}, GatheredRows.{HasGathered}};
 ghost use Rattle.cs_engine.specs.{IndexReading.{OnlyReads, WhereStood}, Loose.{AreLastWords, IsEntryByWords, IsTableFor}};
-ghost use Rattle.cs_engine.specs.{Sources.{met_in, seen}, Steps.{AreHitsOver, IsBaseOf}};
+ghost use Rattle.cs_engine.specs.{Skipping.{hit_blocks, hit_met, hit_of_last}, Sources.{seen}, Steps.{AreHitsOver, IsBaseOf}};
 
 use crate::blockwise::found_behind;
 use crate::chosen::{many_chosen, pack_chosen};
 use crate::counting::listed_docs;
 use crate::finding::{QueryFound, QueryOver, found_with};
 use crate::gathering::{GatheredKeys, gather_keys};
-use crate::hits::listed_count;
+use crate::hits::{listed_count, lists_none};
 use crate::packing::ordered;
 use crate::plain::words_of_part;
 use crate::source::Source;
 use crate::steps::extended_entry;
 use cs_base::{Base, Store};
 use cs_cache::Entry;
+use cs_cols::Cols;
 use cs_file::FetchFault;
 use cs_model_kept::MAX_ENTRY_SIZE;
 use cs_tables::Table;
 
-/// What is found of a query by the hits of its parts before the last, whose atoms are read.
+/// What is found of a query by the hits of its parts before the last, whose atoms are read. Without a hit nothing is read, and for an atom
+/// that is no join no block that no hit reaches.
 pub(crate) fn find_last<I: Source, S: Store>(
     over: QueryOver<'_, I>,
     store: &mut S,
@@ -41,12 +43,17 @@ pub(crate) fn find_last<I: Source, S: Store>(
         → IfOk result (IsFoundAnew b (I.view over.entry.index.now) over.entry.query.now over.entry.cut)) }
     ensures fits { IfOk result (FitsFound (seen (I.view over.entry.index.now)) over.entry.query.now) }
     ensures store { OnlyReads S.bytes S.lent S.faults (I.view over.entry.index.now).index store.old store.new result }
-    ensures reads { ReadsWithin (met_of_last (division (I.view over.entry.index.now).index) (last_of (out-Query over.entry.query.now).parts))
+    ensures reads { ReadsWithin (hit_of_last (division (I.view over.entry.index.now).index) hits (last_of (out-Query over.entry.query.now).parts))
         (S.reads store.old) (S.reads store.new) }
 {
     let parts = over.query.parts.as_slice();
     let last = parts.len() - 1;
     let part = &parts[last];
+    if lists_none(&hits) {
+        let rows = Cols::new(over.alloc);
+        let none = found_with(over, Entry { base: hits, rows })?;
+        return Ok(none);
+    }
     if let Some(words) = words_of_part(over.index, part) {
         let found = find_words(over, store, hits, words)?;
         return Ok(found);
@@ -71,14 +78,14 @@ fn find_words<I: Source, S: Store>(
         → IfOk result (IsFoundAnew b (I.view over.entry.index.now) over.entry.query.now over.entry.cut)) }
     ensures fits { IfOk result (FitsFound (seen (I.view over.entry.index.now)) over.entry.query.now) }
     ensures store { OnlyReads S.bytes S.lent S.faults (I.view over.entry.index.now).index store.old store.new result }
-    ensures reads { ReadsWithin (met_in (I.view over.entry.index.now) words.0 words.1) (S.reads store.old) (S.reads store.new) }
+    ensures reads { ReadsWithin (hit_met (I.view over.entry.index.now) hits words.0 words.1) (S.reads store.old) (S.reads store.new) }
 {
     let QueryOver { alloc, index, .. } = over;
     let weights = index.weights();
     let listed = listed_docs(alloc, index, &hits)?;
     let marks: &[bool] = &listed;
     let room = MAX_ENTRY_SIZE.saturating_sub(listed_count(&hits));
-    let mut gathered = gather_keys(alloc, index, store, words, marks, room)?;
+    let mut gathered = gather_keys(alloc, index, store, words, &hits, marks, room)?;
     let held = index.held();
     if are_more(gathered.keys.len(), many_chosen(held, words, marks), room) {
         let (hits, table) = find_behind(over, store, &hits, words, marks, &gathered)?;
@@ -124,7 +131,8 @@ fn find_behind<I: Source, S: Store>(
     ensures base { IfOk result (λ f. IsBaseOf (I.view over.entry.index.now).docs (MAX_ROW_SCORE * MAX_PARTS) f.0) }
     ensures table { IfOk result (λ f. All (λ w. w.word < length (I.view over.entry.index.now).words) f.1.first) }
     ensures store { OnlyReads S.bytes S.lent S.faults (I.view over.entry.index.now).index store.old store.new result }
-    ensures reads { ReadsWithin (gathered.now.last - gathered.now.next) (S.reads store.old) (S.reads store.new) }
+    ensures reads { ReadsWithin (hit_blocks hits.now (I.view over.entry.index.now).index.heads gathered.now.next gathered.now.last)
+        (S.reads store.old) (S.reads store.new) }
 {
     let QueryOver { alloc, index, .. } = over;
     let (found, counts) = found_behind(alloc, index, store, hits, words, listed, gathered)?;

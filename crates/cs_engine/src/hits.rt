@@ -4,7 +4,7 @@ ghost use Rattle.cs_meet.specs.Filters.{drop_docs};
 ghost use Rattle.cs_base.specs.content.{Members.{members_in}, Orders.{AreSorted, by_rank}};
 ghost use Rattle.cs_model_kept.specs.Entries.{listed_count};
 ghost use Rattle.cs_rank.specs.DocScores.{IsBase};
-ghost use Rattle.cs_engine.specs.{Sources.{IsSource}, Stocked.{base_hits, every, base_posts, present_docs}};
+ghost use Rattle.cs_engine.specs.{Skipping.{lists_none}, Sources.{IsSource}, Stocked.{base_hits, every, base_posts, present_docs}};
 
 use crate::source::Source;
 use cs_base::{Base, Memory, Scored, Seq};
@@ -74,6 +74,16 @@ pub(crate) fn listed_count(base: &Base) -> usize
     match base {
         Base::All => 0,
         Base::Listed(hits) => hits.len(),
+    }
+}
+
+/// Whether a base lists no document. One that stands for all isn't said to.
+pub(crate) fn lists_none(base: &Base) -> bool
+    ensures { result ≡ lists_none base.now }
+{
+    match base {
+        Base::All => false,
+        Base::Listed(hits) => hits.len() == 0,
     }
 }
 

@@ -4,7 +4,7 @@ ghost use Rattle.cs_engine.specs.Sources.{IsSource, source_of};
 use crate::blockwise::are_many;
 use crate::source::Source;
 use crate::words::span_of_word;
-use cs_base::{Memory, Post, Store, Text, Weights};
+use cs_base::{BlockHead, Memory, Post, Store, Text, Weights};
 use cs_file::{FetchFault, Fetched, Index, Sought};
 use std::alloc::Global;
 
@@ -50,6 +50,10 @@ impl Source for Index {
 
     fn blocks(&self, words: (u32, u32)) -> (u32, u32) {
         Index::blocks(self, words.0, words.1)
+    }
+
+    fn head(&self, k: u32) -> &BlockHead {
+        &self.heads.as_slice()[k as usize]
     }
 
     fn are_many(&self, words: (u32, u32)) -> bool {

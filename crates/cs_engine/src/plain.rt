@@ -3,7 +3,8 @@ ghost use Rattle.std.specs.Prelude.{◌≡◌, false, IfSome};
 ghost use Rattle.cs_base.specs.declared.content.query.Part.{out-Part};
 ghost use Rattle.cs_model.specs.Answers.{rows_of_atom, rows_of_chain, rows_of_part};
 ghost use Rattle.cs_model_kept.specs.Due.{met_of_atom, met_of_chain, met_of_part};
-ghost use Rattle.cs_engine.specs.{Asking.{division}, Plain.{AreWordsOf}, Sources.{IsSource}};
+ghost use Rattle.cs_engine.specs.{Asking.{division}, Plain.{AreSharp, AreWordsOf}, Skipping.{hit_of_atom, hit_of_chain, hit_of_part}};
+ghost use Rattle.cs_engine.specs.Sources.{IsSource};
 
 use crate::source::Source;
 use cs_base::{Atom, Chain, Part};
@@ -16,6 +17,7 @@ pub(crate) fn words_of_part<I: Source>(index: &I, part: &Part) -> Option<(u32, u
     ensures positive { IfSome result (λ w. (out-Part part.now).excluded ≡ false) }
     ensures words { IfSome result (λ w. AreWordsOf (I.view index.now) (met_of_part (division (I.view index.now).index) part.now)
         (λ k. (rows_of_part k part.now).rows) w.0 w.1) }
+    ensures sharp { IfSome result (λ w. AreSharp (I.view index.now) (λ b. hit_of_part (division (I.view index.now).index) b part.now) w.0 w.1) }
 {
     if part.excluded {
         return None;
@@ -29,8 +31,9 @@ pub(crate) fn words_of_part<I: Source>(index: &I, part: &Part) -> Option<(u32, u
 fn words_of_chain<I: Source>(index: &I, chain: &Chain) -> Option<(u32, u32)>
     requires index { IsSource (I.view index.now) }
 
-    ensures { IfSome result (λ w. AreWordsOf (I.view index.now) (met_of_chain (division (I.view index.now).index) chain.now)
+    ensures words { IfSome result (λ w. AreWordsOf (I.view index.now) (met_of_chain (division (I.view index.now).index) chain.now)
         (λ k. rows_of_chain k chain.now) w.0 w.1) }
+    ensures sharp { IfSome result (λ w. AreSharp (I.view index.now) (λ b. hit_of_chain (division (I.view index.now).index) b chain.now) w.0 w.1) }
 {
     if chain.rest.as_slice().is_empty() {
         return words_of_atom(index, &chain.first);
@@ -41,8 +44,9 @@ fn words_of_chain<I: Source>(index: &I, chain: &Chain) -> Option<(u32, u32)>
 fn words_of_atom<I: Source>(index: &I, atom: &Atom) -> Option<(u32, u32)>
     requires index { IsSource (I.view index.now) }
 
-    ensures { IfSome result (λ w. AreWordsOf (I.view index.now) (met_of_atom (division (I.view index.now).index) atom.now)
+    ensures words { IfSome result (λ w. AreWordsOf (I.view index.now) (met_of_atom (division (I.view index.now).index) atom.now)
         (λ k. rows_of_atom k atom.now) w.0 w.1) }
+    ensures sharp { IfSome result (λ w. AreSharp (I.view index.now) (λ b. hit_of_atom (division (I.view index.now).index) b atom.now) w.0 w.1) }
 {
     match atom {
         Atom::Prefix(prefix) => Some(index.range(prefix.as_str().as_bytes())),

@@ -1,11 +1,11 @@
 //! Words as they are shown.
 ghost use Rattle.std.specs.Prelude.{◌≡◌, ◌<◌, IfOk, length, map};
 ghost use Rattle.std.specs.{List.{All}, Str.{IsUtf8}};
-ghost use Rattle.{cs_model.specs.Replies.{shown_word}, cs_engine.specs.Stocked.{shown_at}};
+ghost use Rattle.{cs_model.specs.Replies.{shown_word}, cs_engine.specs.{Skipping.{bare_facet}, Stocked.{shown_at}}};
 
 use crate::source::Source;
 use cs_base::{Memory, Seq, Text};
-use cs_query::Shown;
+use cs_query::{FacetShown, Shown};
 use cs_tables::Completion;
 use std::alloc::Global;
 
@@ -26,6 +26,21 @@ pub(crate) fn shown_words<I: Source>(
         shown.push(Shown {
             docs: completion.docs,
             word,
+        })?;
+    }
+    Ok(shown)
+}
+
+/// Facets as they are shown where no document has one of them.
+pub(crate) fn bare_facets(alloc: Global, names: &[Text]) -> Result<Seq<FacetShown>, Memory>
+    ensures { IfOk result (λ shown. shown ≡ map bare_facet names.now) }
+{
+    let mut shown = Seq::new(alloc);
+    for name in names {
+        let copied = name.copy(alloc)?;
+        shown.push(FacetShown {
+            name: copied,
+            table: Seq::new(alloc),
         })?;
     }
     Ok(shown)

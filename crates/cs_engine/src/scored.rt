@@ -5,16 +5,19 @@ ghost use Rattle.cs_base.specs.{declared.content.limits.TheConstants.{MAX_PARTS}
 ghost use Rattle.cs_base.specs.outside.Causes.{ReadsWithin};
 ghost use Rattle.cs_rank.specs.DocScores.{doc_scores};
 ghost use Rattle.cs_engine.specs.{Counting.{in_listed}, Loose.{HasBestScores}, IndexReading.{IsWordRange, OnlyReads, WhereStood}};
-ghost use Rattle.cs_engine.specs.{Sources.{CanRead, met_in, seen}, Steps.{IsBaseOf}, Stocked.{is_between, base_posts}};
+ghost use Rattle.cs_engine.specs.Skipping.{IsSieve, hit_met};
+ghost use Rattle.cs_engine.specs.{Sources.{CanRead, seen}, Steps.{IsBaseOf}, Stocked.{is_between, base_posts}};
 
 use crate::best::{blank_table, raise_held, raise_rows, scored_in};
+use crate::bounds::may_hit;
 use crate::counting::listed_docs;
 use crate::source::Source;
 use cs_base::{Base, Scored, Seq, Store};
 use cs_file::{FetchFault, Fetched};
 use std::alloc::Global;
 
-/// The documents of hits that have a row of these words, with their scores. Each block that holds such a word is read once.
+/// The documents of hits that have a row of these words, with their scores. Each block that holds such a word and that a hit reaches is read
+/// once.
 pub(crate) fn hits_by_words<I: Source, S: Store>(
     alloc: Global,
     index: &I,
@@ -32,37 +35,41 @@ pub(crate) fn hits_by_words<I: Source, S: Store>(
     ensures within { IfOk result (λ next. (n : ℕ) → IsBaseOf (I.view index.now).docs (MAX_ROW_SCORE * n) hits.now
         → IsBaseOf (I.view index.now).docs (MAX_ROW_SCORE * (n + 1)) (base.Listed next)) }
     ensures store { OnlyReads S.bytes S.lent S.faults (I.view index.now).index store.old store.new result }
-    ensures reads { ReadsWithin (met_in (I.view index.now) words.0 words.1) (S.reads store.old) (S.reads store.new) }
+    ensures reads { ReadsWithin (hit_met (I.view index.now) hits.now words.0 words.1) (S.reads store.old) (S.reads store.new) }
 {
     let listed = listed_docs(alloc, index, hits)?;
-    let best = best_in_blocks(alloc, index, store, words, &listed)?;
+    let best = best_in_blocks(alloc, index, store, words, hits, &listed)?;
     let scored = scored_in(alloc, hits, &best)?;
     Ok(scored)
 }
 
-// The best score of each listed document, over its rows of these words, block by block. Each block that holds such a word is read once.
+// The best score of each listed document, over its rows of these words, block by block. Each block that holds such a word and that a hit
+// reaches is read once.
 fn best_in_blocks<I: Source, S: Store>(
     alloc: Global,
     index: &I,
     store: &mut S,
     words: (u32, u32),
+    hits: &Base,
     listed: &[bool],
 ) -> Result<Vec<u8>, FetchFault>
     requires words { IsWordRange (seen (I.view index.now)) words.0 words.1 }
-    requires listed { length listed.now ≡ (I.view index.now).docs }
-    requires opened { CanRead (S.bytes store.old) (I.view index.now) }
+    requires sieve { IsSieve (S.bytes store.old) (I.view index.now) hits.now listed.now }
 
     ensures told { WhereStood (S.bytes store.old) (I.view index.now).index
         (λ b. IfOk result (λ best. HasBestScores (filter (in_listed listed.now)
         (filter (is_between words.0 words.1) ((I.view index.now).stock b).posts)) best.items)) }
     ensures long { IfOk result (λ best. length best.items ≡ (I.view index.now).docs) }
     ensures store { OnlyReads S.bytes S.lent S.faults (I.view index.now).index store.old store.new result }
-    ensures reads { ReadsWithin (met_in (I.view index.now) words.0 words.1) (S.reads store.old) (S.reads store.new) }
+    ensures reads { ReadsWithin (hit_met (I.view index.now) hits.now words.0 words.1) (S.reads store.old) (S.reads store.new) }
 {
     let (first, last) = index.blocks(words);
     let mut best = blank_table(alloc, index.docs())?;
     let mut block = Fetched::new(alloc);
     for k in first..last {
+        if !may_hit(hits, index.head(k)) {
+            continue;
+        }
         index.fetch_scored(alloc, store, k, &mut block)?;
         raise_rows(&mut best, words, listed, &block);
     }

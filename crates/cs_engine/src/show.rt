@@ -3,22 +3,19 @@ ghost use Rattle.std.specs.Prelude.{◌≡◌, ◌+◌, ◌*◌, ◌≤◌, ◌<
 ghost use Rattle.std.specs.List.{All};
 ghost use Rattle.cs_base.specs.{declared.content.scores.TheConstants.{MAX_ROW_SCORE}, outside.Causes.{ReadsWithin}};
 ghost use Rattle.cs_base.specs.declared.content.limits.TheConstants.{MAX_PARTS};
-ghost use Rattle.cs_model.specs.{Collection.{named}, Requests.{hit_shown, reply_of}};
-ghost use Rattle.cs_model_kept.specs.Due.{met_of_facets, met_prefix};
+ghost use Rattle.cs_model.specs.Requests.{hit_shown, reply_of};
 ghost use Rattle.cs_query.specs.RequestView.{asked};
-ghost use Rattle.cs_engine.specs.{Asking.{division, titles_read}, Counting.{AreListed}, HeldRanges.{AreHeldOver, FitsRange, HoldsMore}, Loose.{IsTableFor}};
-ghost use Rattle.cs_engine.specs.declared.held.Holding.TheVariants as holding;
-ghost use Rattle.cs_engine.specs.{IndexReading.{OnlyReads, WhereStood}, Sources.{CanRead, seen}, Steps.{IsBaseOf}, Stocked.{corpus_in, facet_at}};
+ghost use Rattle.cs_engine.specs.{Asking.{division, titles_read}, Counting.{AreListed}, HeldRanges.{AreHeldOver, FitsRange}, Loose.{IsTableFor}};
+ghost use Rattle.cs_engine.specs.{IndexReading.{OnlyReads, WhereStood}, Skipping.{hit_of_facet, hit_of_facets}, Sources.{CanRead, seen}, Steps.{IsBaseOf}, Stocked.{corpus_in, facet_at}};
 
 use crate::counting::listed_docs;
-use crate::facets::{count_facet, rows_of_words};
-use crate::held::{HeldRange, Holder, Holding};
-use crate::hits::first_hits;
-use crate::replies::shown_words;
+use crate::facets::counted_facet;
+use crate::held::Holder;
+use crate::hits::{first_hits, lists_none};
+use crate::replies::{bare_facets, shown_words};
 use crate::source::Source;
 use crate::words::span_of_facet;
 use cs_base::{Base, Scored, Seq, Store, Text};
-use cs_cols::Cols;
 use cs_file::FetchFault;
 use cs_query::{FacetShown, HitShown, Reply, Request};
 use cs_tables::Table;
@@ -42,8 +39,8 @@ impl<I: Source> Clone for RequestOver<'_, I> {
 
 impl<I: Source> Copy for RequestOver<'_, I> {}
 
-/// The reply to a request, by the hits of its query and the table of its completions. Facets go on from the rows that are held, and
-/// what is read of them is held.
+/// The reply to a request, by the hits of its query and the table of its completions. Facets go on from the rows that are held. Of their
+/// blocks only those are read that a hit reaches.
 pub(crate) fn show<I: Source, S: Store>(
     over: RequestOver<'_, I>,
     store: &mut S,
@@ -66,7 +63,7 @@ pub(crate) fn show<I: Source, S: Store>(
         (λ b. AreHeldOver ((I.view over.entry.index.now).stock b) held.old → AreHeldOver ((I.view over.entry.index.now).stock b) held.new) }
     ensures store { OnlyReads S.bytes S.lent S.faults (I.view over.entry.index.now).index store.old store.new result }
     ensures reads { ReadsWithin (titles_read (asked over.entry.request.now) result
-        + met_of_facets (division (I.view over.entry.index.now).index) (asked over.entry.request.now).facets) (S.reads store.old) (S.reads store.new) }
+        + hit_of_facets (division (I.view over.entry.index.now).index) hits.now (asked over.entry.request.now).facets) (S.reads store.old) (S.reads store.new) }
 {
     let RequestOver {
         alloc,
@@ -86,7 +83,7 @@ pub(crate) fn show<I: Source, S: Store>(
     })
 }
 
-// The table of each facet asked.
+// The table of each facet asked. Without a hit nothing is read.
 fn shown_facets<I: Source, S: Store>(
     over: RequestOver<'_, I>,
     store: &mut S,
@@ -104,7 +101,7 @@ fn shown_facets<I: Source, S: Store>(
     ensures good { WhereStood (S.bytes store.old) (I.view over.entry.index.now).index
         (λ b. AreHeldOver ((I.view over.entry.index.now).stock b) held.old → AreHeldOver ((I.view over.entry.index.now).stock b) held.new) }
     ensures store { OnlyReads S.bytes S.lent S.faults (I.view over.entry.index.now).index store.old store.new result }
-    ensures reads { ReadsWithin (met_of_facets (division (I.view over.entry.index.now).index) (asked over.entry.request.now).facets)
+    ensures reads { ReadsWithin (hit_of_facets (division (I.view over.entry.index.now).index) base.now (asked over.entry.request.now).facets)
         (S.reads store.old) (S.reads store.new) }
 {
     let RequestOver {
@@ -116,6 +113,10 @@ fn shown_facets<I: Source, S: Store>(
     if request.facets.as_slice().is_empty() {
         return Ok(shown);
     }
+    if lists_none(base) {
+        let bare = bare_facets(alloc, request.facets.as_slice())?;
+        return Ok(bare);
+    }
     let listed = listed_docs(alloc, index, base)?;
     for name in request.facets.as_slice() {
         let facet = shown_facet(over, store, held, base, &listed, name)?;
@@ -124,7 +125,7 @@ fn shown_facets<I: Source, S: Store>(
     Ok(shown)
 }
 
-// The table of one facet in the documents that a base lists. Its rows are held from then on.
+// The table of one facet in the documents that a base lists.
 fn shown_facet<I: Source, S: Store>(
     over: RequestOver<'_, I>,
     store: &mut S,
@@ -145,7 +146,7 @@ fn shown_facet<I: Source, S: Store>(
     ensures good { WhereStood (S.bytes store.old) (I.view over.entry.index.now).index
         (λ b. AreHeldOver ((I.view over.entry.index.now).stock b) held.old → AreHeldOver ((I.view over.entry.index.now).stock b) held.new) }
     ensures store { OnlyReads S.bytes S.lent S.faults (I.view over.entry.index.now).index store.old store.new result }
-    ensures reads { ReadsWithin (met_prefix (division (I.view over.entry.index.now).index) (named name.now [])) (S.reads store.old) (S.reads store.new) }
+    ensures reads { ReadsWithin (hit_of_facet (division (I.view over.entry.index.now).index) base.now name.now) (S.reads store.old) (S.reads store.new) }
 {
     let RequestOver {
         alloc,
@@ -153,10 +154,8 @@ fn shown_facet<I: Source, S: Store>(
         request,
     } = over;
     let words = span_of_facet(alloc, index, name)?;
-    let rows = rows_of_words(alloc, index, store, words, held)?;
-    let counts = count_facet(alloc, words, &rows, base, listed)?;
+    let counts = counted_facet(alloc, index, store, words, base, listed, held)?;
     let table = counts.table(alloc, request.completions)?;
-    hold_rows(held, words, rows);
     let shown = shown_words(alloc, index, table.first.as_slice())?;
     let copied = name.copy(alloc)?;
     Ok(FacetShown {
@@ -191,17 +190,4 @@ fn shown_hits<I: Source, S: Store>(
         })?;
     }
     Ok(shown)
-}
-
-// Holds the rows of some words; nothing where there is none.
-fn hold_rows(held: &mut Holder, words: (u32, u32), rows: Cols)
-    ensures { HoldsMore (record { low = words.0; high = words.1; what = holding.Rows rows }) held.old held.new }
-{
-    if rows.len() > 0 {
-        held.hold(HeldRange {
-            low: words.0,
-            high: words.1,
-            what: Holding::Rows(rows),
-        });
-    }
 }

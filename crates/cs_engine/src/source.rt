@@ -10,9 +10,9 @@ ghost use Rattle.cs_file.specs.Indexes.{AreMet, HasAllBlocks, StandsFor};
 ghost use Rattle.cs_model_index.specs.Numbered.{word_at};
 ghost use Rattle.cs_tables.specs.WordCounts.{is_chosen};
 ghost use Rattle.cs_vocab.specs.Ranges.{IsRange};
-ghost use Rattle.cs_engine.specs.{Blockwise.{AreMany}, IndexReading.{IsSpanOf, IsWordRange, OnlyReads}, Sources.{SourceView, seen}, Stocked.{title_at}};
+ghost use Rattle.cs_engine.specs.{Blockwise.{AreMany}, IndexReading.{IsSpanOf, IsWordRange, OnlyReads}, Skipping.{no_head}, Sources.{SourceView, seen}, Stocked.{title_at}};
 
-use cs_base::{Memory, Post, Store, Text, Weights};
+use cs_base::{BlockHead, Memory, Post, Store, Text, Weights};
 use cs_file::{FetchFault, Fetched, Sought};
 use std::alloc::Global;
 
@@ -65,6 +65,12 @@ pub trait Source {
         requires { IsWordRange (seen (view self.now)) words.0 words.1 }
 
         ensures { AreMet (view self.now).index.heads ((view self.now).before words.0) ((view self.now).before words.1) result.0 result.1 };
+
+    /// The head of block `k`, with the least and the greatest document of its rows.
+    fn head(&self, k: u32) -> &BlockHead
+        requires { k < length (view self.now).index.heads }
+
+        ensures { result.now ≡ slice_index_or (view self.now).index.heads k no_head };
 
     /// Whether there are more rows of these words than an entry may have, as far as can be told without reading them.
     fn are_many(&self, words: (u32, u32)) -> bool

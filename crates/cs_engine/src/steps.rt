@@ -5,11 +5,13 @@ ghost use Rattle.cs_base.specs.{declared.content.limits.TheConstants.{MAX_PARTS}
 ghost use Rattle.cs_base.specs.declared.content.query.Part.{out-Part};
 ghost use Rattle.cs_model.specs.Answers.{rows_of_part};
 ghost use Rattle.cs_model_kept.specs.Due.{met_of_part};
-ghost use Rattle.cs_engine.specs.{Asking.{division}, IndexReading.{OnlyReads, WhereStood}, Sources.{CanRead, seen}};
+ghost use Rattle.cs_engine.specs.{Asking.{division}, IndexReading.{OnlyReads, WhereStood}, Skipping.{hit_of_part}, Sources.{CanRead, seen}};
 ghost use Rattle.cs_engine.specs.{Steps.{AreHitsOver, EntryFits, IsBaseOf, IsStep, end_positive}, Stocked.{corpus_in}};
 
+use crate::counting::listed_docs;
 use crate::entries::{posts_after, posts_hits};
-use crate::evaluation::rows_of_part;
+use crate::hits::lists_none;
+use crate::inside::rows_inside;
 use crate::plain::words_of_part;
 use crate::scored::hits_by_words;
 use crate::source::Source;
@@ -19,6 +21,7 @@ use cs_file::FetchFault;
 use std::alloc::Global;
 
 /// The hits of a query of these parts, one part after the other. Where a part asks for some words, its rows are brought into no order.
+/// Behind parts that leave no hit nothing is read.
 pub(crate) fn hits_of_parts<I: Source, S: Store>(
     alloc: Global,
     index: &I,
@@ -36,6 +39,9 @@ pub(crate) fn hits_of_parts<I: Source, S: Store>(
 {
     let mut hits = Base::All;
     for part in parts {
+        if lists_none(&hits) {
+            continue;
+        }
         if let Some(words) = words_of_part(index, part) {
             let scored = hits_by_words(alloc, index, store, &hits, words)?;
             hits = Base::Listed(scored);
@@ -47,7 +53,8 @@ pub(crate) fn hits_of_parts<I: Source, S: Store>(
     Ok(hits)
 }
 
-/// The entry of a query and one part more, by the query's hits. The part's rows are brought into one order.
+/// The entry of a query and one part more, by the query's hits. The part's rows are brought into one order. For an atom that is no join no
+/// block that no hit reaches is read.
 pub(crate) fn extended_entry<I: Source, S: Store>(
     alloc: Global,
     index: &I,
@@ -63,9 +70,10 @@ pub(crate) fn extended_entry<I: Source, S: Store>(
     ensures within { IfOk result (λ e. (n : ℕ) → IsBaseOf (I.view index.now).docs (MAX_ROW_SCORE * n) hits
         → EntryFits (seen (I.view index.now)) (not (out-Part part.now).excluded) (n + 1) e) }
     ensures store { OnlyReads S.bytes S.lent S.faults (I.view index.now).index store.old store.new result }
-    ensures reads { ReadsWithin (met_of_part (division (I.view index.now).index) part.now) (S.reads store.old) (S.reads store.new) }
+    ensures reads { ReadsWithin (hit_of_part (division (I.view index.now).index) hits part.now) (S.reads store.old) (S.reads store.new) }
 {
-    let rows = rows_of_part(alloc, index, store, part)?;
+    let listed = listed_docs(alloc, index, &hits)?;
+    let rows = rows_inside(alloc, index, store, &hits, &listed, part)?;
     let entry = posts_after(alloc, index, hits, part.excluded, rows)?;
     Ok(entry)
 }

@@ -19,17 +19,18 @@
 --   along_start, along_next, along_hold, along_rest, along_stop    the way through the bytes
 --   asks_counted, asks_of_line    the bytes of a piece that count, and of a connection that is kept
 --   sent_open, refused_close      what is known of a response by what was sent
---   few_titles, read_in           one answer of an engine
---   standing, stands_so           how an engine stands
+--   few_titles, read_in, same_refusal      one answer of an engine
+--   stands_so                     how an engine stands
 --   within_due, within_for        an engine asked so reads no more than is due
 use Rattle.std.proofs.Common.{◌≡◌, ℕ, ◌+◌, ◌-◌, ◌≤◌, Bool, true, false, List, [], ◌∷◌, ◌++◌, length, take, drop, slice_range, refl, sym, ◌∙◌, ap, ap₂, subst}
 use Rattle.std.proofs.Common.{arith, append_assoc, append-nil, inl, inr, length-append}
-use Rattle.std.specs.Prelude.{◌⊎◌, suc, ◌<◌, not, cond, slice_set, is_some, Option, Some, None, Result, Ok, Err, IfOk, is_ok}
+use Rattle.std.specs.Prelude.{◌⊎◌, suc, ◌<◌, not, cond, slice_set, is_some, Option, Some, None, Result, Ok, Err, IfErr, IfOk, is_ok}
 use Rattle.std.proofs.Math.Seq.{take-append-add}
 use Rattle.std.proofs.lemmas.Grind.{flat_map-append}
 use Rattle.std.proofs.lemmas.List.{take_all}
 use Rattle.std.proofs.lemmas.List.Elements.{All-append, All-cons, All-nil}
-use Rattle.std.specs.Result.{IsErr}
+use Rattle.std.specs.Option.{ForSome}
+use Rattle.std.specs.Result.{IsErr, IsErrAnd}
 use Rattle.std.specs.FinMap as map
 use Rattle.cs_base.specs.declared.content.limits.TheConstants.{MAX_CONNECTION_BYTES}
 use Rattle.cs_base.specs.declared.memory.Memory.{Memory}
@@ -37,13 +38,13 @@ use Rattle.cs_base.specs.declared.outside.hub.Event.{Event}
 use Rattle.cs_base.specs.declared.outside.hub.Event.TheVariants as events
 use Rattle.cs_base.specs.outside.Causes.{ReadsWithin}
 use Rattle.cs_base.specs.outside.Hub.{Talk}
-use Rattle.cs_engine.specs.Asking.{titles_asked}
+use Rattle.cs_engine.specs.Asking.{IsChangeIn, titles_asked}
 use Rattle.cs_file.specs.CallAnswers.{is_read}
-use Rattle.cs_engine.specs.Keeping.{EngineView}
+use Rattle.cs_engine.specs.Keeping.{AreGood, EngineView}
 use Rattle.cs_file.specs.declared.fault.FetchFault.{FetchFault}
 use Rattle.cs_file.specs.declared.fault.FetchFault.TheVariants as refusals
 use Rattle.cs_engine.specs.declared.note.Note.{Note}
-use Rattle.cs_file.specs.Indexes.{CausedReads}
+use Rattle.cs_file.specs.Indexes.{CausedReads, StandsFor}
 use Rattle.cs_http.specs.Judging.{IsHeadCause}
 use Rattle.cs_http.specs.declared.heads.HeadFault.{HeadFault}
 use Rattle.cs_http.specs.declared.heads.HeadFault.TheVariants as heads
@@ -56,9 +57,9 @@ use Rattle.cs_model_serving.specs.Connections.{Left}
 use Rattle.cs_model_serving.specs.Framing.{frame}
 use Rattle.cs_model_serving.specs.Heads.{Judgement, asks, judge}
 use Rattle.cs_model_serving.specs.Responses.{Response, all_bytes, memory_bytes, response_bytes, too_long}
-use Rattle.cs_hub.specs.Asked.{InTurn, AsksOf, AsksAsSent, AsksAlong, AsksBy, Standing, EngineLeaves}
-use Rattle.cs_hub.specs.DueReads.{Answered, AnswersWithin, AreDue, HasMemory, SentAt, SentBefore, bytes_behind, bytes_to_answer, closes_behind, goes_on}
-use Rattle.cs_hub.specs.DueReads.{AreResponsesBy, IsPartOf, IsResponseBy, IsRest, IsTextBy, IsWholeBy, SentBy, heads_on, read_failures, is_want, reply_in, requests_by, requests_in, requests_of, requests_on, requests_to}
+use Rattle.cs_hub.specs.Asked.{InTurn, AsksOf, AsksAsSent, AsksAlong, AsksBy, Standing, EngineLeaves, standing}
+use Rattle.cs_hub.specs.DueReads.{Answered, AnswersWithin, AreDue, HasMemory, IsDue, SentAt, SentBefore, bytes_behind, bytes_to_answer, closes_behind, goes_on}
+use Rattle.cs_hub.specs.DueReads.{AreResponsesBy, IsPartOf, IsResponseBy, IsRest, IsTextBy, IsWholeBy, SentBy, heads_on, read_failures, is_want, reply_in, requests_by, requests_in, requests_of, requests_on, requests_to, sharp_due, sharp_sum}
 use Rattle.cs_hub.specs.HubFollowing.{Lefts, left_at}
 use Rattle.cs_hub.specs.Responding.{response, IsJudgedSo}
 use Rattle.cs_hub.specs.Speaking.{SaidOn, Spoke, Starved}
@@ -597,29 +598,51 @@ caused_rose : (read : Bool) (before now : ℕ) → CausedReads read before now �
 caused_rose true before now h = rose_one before now (h.failed refl)
 caused_rose false before now h = rose_none before now h.later
 
+-- the same where the store tells these bytes
+abbrev due_where : (told told' : Option (List ℕ)) → told ≡ told' → (a : Answered) (old : EngineView) (n : ℕ) (new : EngineView) → IsDue told a old n new
+    → IsDue told' a old n new
+due_where told told' e a old n new h = record {
+  answer = h.answer;
+  reply = h.reply;
+  few = h.few;
+  index = h.index;
+  keeps = h.keeps;
+  unchanged = λ b is. h.unchanged b (e ∙ is);
+  changed = subst (λ x. IfErr h.answer (IsChangeIn old.index x)) e h.changed;
+  right = λ b is. h.right b (e ∙ is);
+  sum = h.sum;
+}
+
 -- the reads that are due for requests which an engine was asked in turn
-pub record SumOf (xs : List Answered) (s t : Standing) : Type 0 where
+pub record SumOf (told : Option (List ℕ)) (xs : List Answered) (s t : Standing) : Type 0 where
   pub n : ℕ
-  pub are_due : AreDue s.told xs s.engine n t.engine
+  pub are_due : AreDue told xs s.engine n t.engine
   pub reads : ReadsWithin n s.reads t.reads
+  pub sharp : ForSome told (λ b. StandsFor b s.engine.index → AreGood b s.engine → ReadsWithin (sharp_sum told b xs s.engine n t.engine are_due) s.reads t.reads)
   pub rose : RoseBy (read_failures xs) s.faults t.faults
 
-sum_of : (xs : List Answered) (s t : Standing) → InTurn EngineLeaves xs s t → SumOf xs s t
-sum_of [] s t h =
-    subst (λ (x : Standing). SumOf [] s x) (sym h) (record
-    { n = 0; are_due = (refl, refl); reads = record { later = omega arith; within = omega arith }; rose = rose_none s.faults s.faults (omega arith) })
-sum_of (a ∷ xs) s t h =
-    let others = sum_of xs h.0 t h.2 in
+sum_of : (told : Option (List ℕ)) (xs : List Answered) (s t : Standing) → s.told ≡ told → InTurn EngineLeaves xs s t → SumOf told xs s t
+sum_of told [] s t e h =
+    subst (λ (x : Standing). SumOf told [] s x) (sym h) (record {
+      n = 0;
+      are_due = (refl, refl);
+      reads = record { later = omega arith; within = omega arith };
+      sharp = λ b is stands good. record { later = omega arith; within = omega arith };
+      rose = rose_none s.faults s.faults (omega arith);
+    })
+sum_of told (a ∷ xs) s t e h =
+    let others = sum_of told xs h.0 t (h.1.told ∙ e) h.2 in
     record {
       n = h.1.n + others.n;
-      are_due = (h.1.n, others.n, h.0.engine, refl, h.1.is_due, subst (λ x. AreDue x xs h.0.engine others.n t.engine) h.1.told others.are_due);
+      are_due = (h.1.n, others.n, h.0.engine, refl, due_where s.told told e a s.engine h.1.n h.0.engine h.1.is_due, others.are_due);
       reads = reads_both h.1.n others.n s.reads h.0.reads t.reads h.1.reads others.reads;
+      sharp = λ b is stands good.
+          let right = h.1.is_due.right b (e ∙ is) stands good in
+          reads_both (sharp_due b a.0 s.engine h.1.is_due.answer) (sharp_sum told b xs h.0.engine others.n t.engine others.are_due) s.reads h.0.reads t.reads
+          (h.1.sharp b (e ∙ is) stands good) (others.sharp b is (subst (StandsFor b) (sym h.1.is_due.index) stands) right.good);
       rose = rose_both (cond (is_read a.1) 1 0) (read_failures xs) s.faults h.0.faults t.faults
           (caused_rose (is_read a.1) s.faults h.0.faults h.1.caused) others.rose;
     }
-
-abbrev pub standing : Option (List ℕ) → EngineView → ℕ → ℕ → Standing
-standing told e reads faults = record { told = told; engine = e; reads = reads; faults = faults }
 
 pub stands_so : (b b' : Option (List ℕ)) (e e' : EngineView) (m m' n n' : ℕ) → b ≡ b' → e ≡ e' → m ≡ m' → n ≡ n' → standing b e m n ≡ standing b' e' m' n'
 stands_so b b' e e' m m' n n' h i j k = ap (λ x. standing x e m n) h ∙ ap (λ x. standing b' x m n) i ∙ ap (λ x. standing b' e' x n) j ∙ ap (standing b' e' m') k
@@ -630,7 +653,7 @@ Within whole qs Sent s t = AnswersWithin s.told whole qs s.engine t.engine s.rea
 within_due : (whole : Bool) (qs : List Request) (s t : Standing) (Sent : List Answered → Type 0) → AsksAsSent EngineLeaves whole qs s t Sent
     → Within whole qs Sent s t
 within_due whole qs s t Sent a =
-    let sum = sum_of a.asks.answered s t a.asks.in_turn in
+    let sum = sum_of s.told a.asks.answered s t refl a.asks.in_turn in
     record {
       answered = a.asks.answered;
       later = a.asks.later;
@@ -639,6 +662,7 @@ within_due whole qs s t Sent a =
       n = sum.n;
       are_due = sum.are_due;
       reads = sum.reads;
+      sharp = sum.sharp;
       rose = sum.rose;
       sent = a.sent;
     }
@@ -678,3 +702,8 @@ read_in (Ok x) = refl
 read_in (Err refusals.Read) = refl
 read_in (Err (refusals.Changed rule at)) = refl
 read_in (Err refusals.Memory) = refl
+
+pub same_refusal : (answer : Result (Reply × Note) FetchFault) (e : FetchFault) (r : Result Reply FetchFault) → answer ≡ Err e → IsErrAnd r (λ x. x ≡ e)
+    → r ≡ reply_in answer
+same_refusal answer e (Ok x) was is = absurd is
+same_refusal answer e (Err x) was is = ap Err is ∙ sym (ap reply_in was)

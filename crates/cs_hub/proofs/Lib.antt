@@ -11,6 +11,7 @@ pub mod RespondingLemmas
 pub mod RightLemmas
 pub mod RoundLemmas
 pub mod ServedLemmas
+pub mod SharpSums
 pub mod SpeakLemmas
 pub mod TotalLemmas
 pub mod TurnLemmas

@@ -1,15 +1,20 @@
 -- What comes of parameters, and the response by it.
 --
 --   refused_comes, refused_right, refused_caused     of parameters that are refused
+--   may_come                   what came may come
+--   comes_so                   what came, by other names of the states
+--   change_told                a change that an engine tells is one of its index
 --   refused_is, replied_is     the right response to refused parameters, and to a request
 --   given_outcome              the response by what came, as one that may be sent
 --   asks_outcome               what was asked, by what came
 use Rattle.std.proofs.Common.{◌≡◌, ℕ, ◌+◌, Bool, true, false, cond, List, [], ◌∷◌, inl, inr, refl, sym, ◌∙◌, ap, subst, arith}
-use Rattle.std.specs.Prelude.{◌≢◌, ◌≤◌, Option, Some, None, Result, Ok, Err, IfOk, is_ok}
+use Rattle.std.specs.Prelude.{◌≢◌, ◌≤◌, Option, Some, None, Result, Ok, Err, IfErr, IfOk, is_ok}
 use Rattle.std.proofs.lemmas.Option.{same_Some}
 use Rattle.std.proofs.lemmas.Result.{IfOk-weaker}
 use Rattle.cs_base.specs.declared.memory.Memory.{Memory}
 use Rattle.cs_base.specs.outside.Causes.{Rose}
+use Rattle.cs_engine.specs.Asking.{IsChangeIn}
+use Rattle.cs_engine.specs.declared.note.Note.{Note}
 use Rattle.cs_file.specs.Indexes.{CausedReads}
 use Rattle.cs_file.specs.declared.fault.FetchFault.{FetchFault}
 use Rattle.cs_file.specs.declared.fault.FetchFault.TheVariants as fetches
@@ -27,9 +32,9 @@ use Rattle.cs_model_serving.proofs.CountLemmas.{read_counts}
 use Rattle.cs_query.specs.RequestView.{asked}
 use Rattle.cs_query.specs.declared.request.ReqFault.{ReqFault}
 use Rattle.cs_query.specs.declared.request.ReqFault.TheVariants as faults
-use Rattle.cs_hub.specs.Asked.{AsksAsSent}
-use Rattle.cs_hub.specs.DueReads.{Answered, IsBy, is_want, requests_by, response_by}
-use Rattle.cs_hub.specs.Outcomes.{ComesOf, IsRefusal, IsRightOutcome, fails_read}
+use Rattle.cs_hub.specs.Asked.{AsksAsSent, EngineLeaves, Standing}
+use Rattle.cs_hub.specs.DueReads.{Answered, IsBy, is_want, reply_in, requests_by, response_by}
+use Rattle.cs_hub.specs.Outcomes.{ComesOf, IsOutcome, IsRefusal, IsRightOutcome, TellsChange, fails_read}
 use Rattle.cs_hub.specs.Responding.{response, response_for}
 use Rattle.cs_hub.specs.Streams.{RoseBy}
 use Rattle.cs_hub.specs.Turns.{IsFor, IsGiven}
@@ -58,6 +63,20 @@ refused_caused e (Replied q r) n h = absurd h
 refused_caused e Read n h = absurd h
 refused_caused e (Changed rule at) n h = absurd h
 refused_caused e Wants n h = none_failed n
+
+-- ---- a change
+kept_from : (P : FetchFault → Type 0) (answer : Result (Reply × Note) FetchFault) → IfErr answer P → IfErr (reply_in answer) P
+kept_from P (Ok r) h = tt
+kept_from P (Err e) h = h
+
+pub change_told : (p : List ℕ) (o : RequestOutcome) (s t : Standing) → ComesOf EngineLeaves p s o t → TellsChange s.engine.index s.told o
+change_told p (Refused e) s t h = tt
+change_told p (Replied q r) s t h = tt
+change_told p Read s t h = tt
+change_told p (Changed rule at) s t h =
+    subst (λ (r : Result Reply FetchFault). IfErr r (IsChangeIn s.engine.index s.told)) (sym h.1.is_due.reply)
+    (kept_from (IsChangeIn s.engine.index s.told) h.1.is_due.answer h.1.is_due.changed)
+change_told p Wants s t h = tt
 
 -- ---- the right response
 abbrev refusing : ReqFault → Bool → Response
@@ -88,6 +107,17 @@ module _ {K : Type 0} (Leaves : K → Request → Result Reply FetchFault → K 
   refused_comes p e Read s cause h = absurd h
   refused_comes p e (Changed rule at) s cause h = absurd h
   refused_comes p e Wants s cause h = inl refl
+
+  -- ---- what came
+  pub may_come : (p : List ℕ) (o : RequestOutcome) (s t : K) → ComesOf Leaves p s o t → IsOutcome p o
+  may_come p (Refused e) s t h = (h.0, h.1)
+  may_come p (Replied q r) s t h = (h.0, h.1)
+  may_come p Read s t h = h.0
+  may_come p (Changed rule at) s t h = h.0
+  may_come p Wants s t h = tt
+
+  pub comes_so : (p : List ℕ) (o : RequestOutcome) (s s' t t' : K) → s ≡ s' → t ≡ t' → ComesOf Leaves p s o t → ComesOf Leaves p s' o t'
+  comes_so p o s s' t t' e f h = subst (ComesOf Leaves p s' o) f (subst (λ x. ComesOf Leaves p x o t) e h)
 
   -- ---- the response by what came
   plain_given : (k : Corpus) (p : List ℕ) (close : Bool) (r : Response) (m n : ℕ) → r ≡ to_params k p close → m ≤ n

@@ -1,7 +1,7 @@
 -- What all events together ask, event by event.
 --
 --   conn_both, conn_own, conn_other, all_tagged     the answers of one connection, and of all
---   due_both, failures_both     what is due for the answers of all, and how many are failed reads
+--   failures_both               how many answers are failed reads
 --   asked_none, all_none, opened_none, asked_starved     a connection on which nothing was asked
 --   asked_as, all_as            the same by equal parts
 --   piece_asked, piece_all      a piece on a connection that is kept
@@ -23,6 +23,7 @@ use Rattle.std.proofs.Math.Seq.{take-length}
 use Rattle.cs_base.specs.declared.content.limits.TheConstants.{MAX_CONNECTION_BYTES}
 use Rattle.cs_base.specs.declared.outside.hub.Event.{Event}
 use Rattle.cs_base.specs.declared.outside.hub.Event.TheVariants.{Opened, Piece, Ended, Over}
+use Rattle.cs_base.specs.outside.Causes.{ReadsWithin}
 use Rattle.cs_base.specs.outside.Hub.{Came, Talk, Listening, IsOrderly, came_of, hears, listens, sent_on}
 use Rattle.cs_engine.specs.Keeping.{EngineView}
 use Rattle.cs_model.specs.Requests.{Request}
@@ -40,6 +41,7 @@ use Rattle.cs_hub.proofs.AskedLemmas.{asked_both, enough_both, memory_both, requ
 use Rattle.cs_hub.proofs.ByLemmas.{are_both, by_behind, memory_part}
 use Rattle.cs_hub.proofs.EventLemmas.{bytes_that_came-push, silent_before}
 use Rattle.cs_hub.proofs.ServedLemmas.{bytes_both}
+use Rattle.cs_hub.proofs.SharpSums.{due_both, good_due, sum_both, sum_by_list}
 use Rattle.cs_hub.proofs.SpeakLemmas.{by_conn as by_case, itself, rose_both, rose_none}
 use Rattle.cs_hub.proofs.UnreadHeads.{heads-more, requests-none}
 
@@ -70,13 +72,6 @@ all_tagged c [] = refl
 all_tagged c (y ∷ ys) = ap (λ l. y ∷ l) (all_tagged c ys)
 
 -- ---- answers of all
-pub due_both : (told : Option (List ℕ)) (xs ys : List Answered) (old mid new : EngineView) (m n : ℕ) → AreDue told xs old m mid → AreDue told ys mid n new
-    → AreDue told (xs ++ ys) old (m + n) new
-due_both told [] ys old mid new m n h k =
-    subst (λ e. AreDue told ys e (m + n) new) h.1 (subst (λ i. AreDue told ys mid i new) (let e : n ≡ m + n = omega (arith, h.0) in e) k)
-due_both told (x ∷ xs) ys old mid new m n h k =
-    (h.0, h.1 + n, h.2, (let e : m + n ≡ h.0 + (h.1 + n) = omega (arith, h.3) in e), h.4, due_both told xs ys h.2 mid new h.1 n h.5 k)
-
 pub failures_both : (xs ys : List Answered) → read_failures (xs ++ ys) ≡ read_failures xs + read_failures ys
 failures_both [] ys = omega arith
 failures_both (x ∷ xs) ys = let e = failures_both xs ys in omega (arith, e)
@@ -463,6 +458,12 @@ module _ (told : Option (List ℕ)) (event : Event) (piece : List ℕ) (core cor
           are_due = subst (λ l. AreDue told l first (a.all.n + h.answers.n) new) (sym (answers_both a.all.asked c ys))
               (due_both told (all_answers a.all.asked) ys first old new a.all.n h.answers.n a.all.are_due h.answers.are_due);
           reads = reads_both a.all.n h.answers.n m before now a.all.reads h.answers.reads;
+          sharp = λ b is stands good.
+              let mid = good_due told (all_answers a.all.asked) first a.all.n old a.all.are_due b is stands good in
+              let both = due_both told (all_answers a.all.asked) ys first old new a.all.n h.answers.n a.all.are_due h.answers.are_due in
+              let sum = sum_by_list told b new first (a.all.n + h.answers.n) (sym (answers_both a.all.asked c ys)) both
+              ∙ sum_both told b new (all_answers a.all.asked) ys first old a.all.n h.answers.n a.all.are_due h.answers.are_due in
+              subst (λ i. ReadsWithin i m now) (sym sum) (reads_both _ _ m before now (a.all.sharp b is stands good) (h.answers.sharp b is mid.0 mid.1));
           rose = subst (λ i. RoseBy i n failed')
               (sym (ap read_failures (answers_both a.all.asked c ys) ∙ failures_both (all_answers a.all.asked) ys))
               (rose_both (read_failures (all_answers a.all.asked)) (read_failures ys) n failed failed' a.all.rose h.answers.rose);
@@ -485,6 +486,7 @@ asks_none told e m n s talk port conns is orderly = record {
   n = 0;
   are_due = (refl, refl);
   reads = record { later = omega arith; within = omega arith };
+  sharp = λ b is stands good. record { later = omega arith; within = omega arith };
   rose = rose_none n n (omega arith);
   each = λ t at c.
       let none = bytes_at_start s talk port conns is orderly t at c in

@@ -7,15 +7,16 @@
 --   AsksBy                  what a turn asked, by what it gave
 --   StaysAnswering          what every call keeps of what answers requests
 --   LeavesIndex             what every call keeps of an engine and its store
---   Standing                an engine over its store, as it stands between requests
+--   Standing, standing      an engine over its store, as it stands between requests
 --   EngineLeaves s q r t    a request was asked of an engine over its store
 use Rattle.std.specs.Prelude.{◌≡◌, ◌≤◌, ℕ, Bool, true, false, List, [], ◌∷◌, ◌++◌, length, drop, Option, Result}
+use Rattle.std.specs.Option.{ForSome}
 use Rattle.cs_base.specs.outside.Causes.{ReadsWithin}
 use Rattle.cs_base.specs.outside.Hub.{Talk}
 use Rattle.cs_file.specs.CallAnswers.{is_read}
-use Rattle.cs_engine.specs.Keeping.{EngineView}
+use Rattle.cs_engine.specs.Keeping.{AreGood, EngineView}
 use Rattle.cs_file.specs.declared.fault.FetchFault.{FetchFault}
-use Rattle.cs_file.specs.Indexes.{CausedReads}
+use Rattle.cs_file.specs.Indexes.{CausedReads, StandsFor}
 use Rattle.cs_model.specs.Corpus.{Corpus}
 use Rattle.cs_model.specs.Replies.{Reply}
 use Rattle.cs_model.specs.Requests.{Request}
@@ -23,7 +24,7 @@ use Rattle.cs_model_serving.specs.Responses.{Response, all_bytes}
 use Rattle.cs_hub.specs.declared.reading.HeadTurn.{HeadTurn}
 use Rattle.cs_hub.specs.declared.reading.HeadTurn.TheVariants as turns
 use Rattle.cs_hub.specs.DueReads.{Answered, AreResponsesBy, HasMemory, IsDue, SentBefore}
-use Rattle.cs_hub.specs.DueReads.{heads_on, requests_of, requests_on, requests_to}
+use Rattle.cs_hub.specs.DueReads.{heads_on, requests_of, requests_on, requests_to, sharp_due}
 use Rattle.cs_hub.specs.Speaking.{Spoke}
 
 module _ {K : Type 0} (Leaves : K → Request → Result Reply FetchFault → K → Type 0) where
@@ -89,10 +90,17 @@ pub record Standing : Type 0 where
   pub reads : ℕ
   pub faults : ℕ
 
--- no more is read than is due, and a failed read is told where the count of failures rose
+-- the same, one after the other
+abbrev pub standing : Option (List ℕ) → EngineView → ℕ → ℕ → Standing
+standing told e reads faults = record { told = told; engine = e; reads = reads; faults = faults }
+
+-- no more is read than is due, and where the store tells the bytes of the index and what is kept is good, no block that no hit reaches;
+-- a failed read is told where the count of failures rose
 pub record EngineLeaves (s : Standing) (q : Request) (r : Result Reply FetchFault) (t : Standing) : Type 0 where
   pub n : ℕ
   pub is_due : IsDue s.told (q, r) s.engine n t.engine
   pub told : t.told ≡ s.told
   pub reads : ReadsWithin n s.reads t.reads
+  pub sharp : ForSome s.told (λ b. StandsFor b s.engine.index → AreGood b s.engine
+      → ReadsWithin (sharp_due b q s.engine is_due.answer) s.reads t.reads)
   pub caused : CausedReads (is_read r) s.faults t.faults

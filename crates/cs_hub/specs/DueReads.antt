@@ -30,11 +30,14 @@
 --   SentBy rs hs xs part    such responses to some first heads, and behind them some first bytes of the next one
 --   IsDue told a e n e'     n reads are due for a request of the engine e with this answer, which leaves the engine e'
 --   AreDue told xs e n e'   the same of requests that are asked one after the other
+--   sharp_due b q e r       the reads due for a request of the engine e with this answer, over the bytes b, without blocks that no hit reaches
+--   sharp_sum told b xs     their sum for requests that are asked one after the other
 --   HasMemory xs            none of the answers is want of memory
 --   SentBefore c goes b xs  behind a response that wasn't sent whole on the connection c nothing was asked of the bytes b; where it
 --                           goes on each head has its response
 --   SentAt event goes b xs  the same where the event is a piece
---   AnswersWithin           some first requests were answered, and no more was read than is due for them
+--   AnswersWithin           some first requests were answered, and no more was read than is due for them, and over bytes of the index no
+--                           block that no hit reaches
 use Rattle.std.specs.Prelude.{◌≡◌, ◌⊎◌, ℕ, suc, ◌+◌, ◌-◌, ◌≤◌, Bool, true, false, cond, List, [], ◌∷◌, ◌++◌, map, length, take, drop, slice_range, All, Option}
 use Rattle.std.specs.Prelude.{Some, None, is_some, Result, Ok, Err, IfOk, IfErr}
 use Prim.Native.Nat.{zero}
@@ -52,6 +55,7 @@ use Rattle.cs_model.specs.Replies.{Reply, reply_text}
 use Rattle.cs_model.specs.Requests.{Request, reply_of}
 use Rattle.cs_model_index.specs.Sections.{file_corpus}
 use Rattle.cs_model_kept.specs.Due.{due}
+use Rattle.cs_model_kept.specs.Sharp.{sharp}
 use Rattle.cs_model_serving.specs.declared.framed.Framed.{Framed}
 use Rattle.cs_model_serving.specs.declared.framed.Framed.TheVariants.{Head, More, TooLong}
 use Rattle.cs_model_serving.specs.Connections.{Left}
@@ -182,6 +186,16 @@ abbrev pub AreDue : Option (List ℕ) → List Answered → EngineView → ℕ �
 AreDue told [] old n new = (n ≡ 0) × (new ≡ old)
 AreDue told (a ∷ xs) old n new = (one : ℕ) × (others : ℕ) × (mid : EngineView) × (n ≡ one + others) × IsDue told a old one mid × AreDue told xs mid others new
 
+-- by the same plan and titles as `due`
+abbrev pub sharp_due : List ℕ → Request → EngineView → Result (Reply × Note) FetchFault → ℕ
+sharp_due b q old answer = sharp (division old.index) (file_corpus b) q (note_plan q.query old.answers) (titles_asked q answer)
+
+-- by the plans and titles that are due; 0 for none
+abbrev pub sharp_sum : (told : Option (List ℕ)) (b : List ℕ) (xs : List Answered) (old : EngineView) (n : ℕ) (new : EngineView)
+    → AreDue told xs old n new → ℕ
+sharp_sum told b [] old n new h = 0
+sharp_sum told b (a ∷ xs) old n new h = sharp_due b a.0 old h.4.answer + sharp_sum told b xs h.2 h.1 new h.5
+
 -- ---- between answers
 -- of no answers none is
 abbrev pub HasMemory : List Answered → Type 0
@@ -253,7 +267,8 @@ SentAt (Ended c) goes b talk talk' answered = answered ≡ []
 SentAt Over goes b talk talk' answered = answered ≡ []
 
 -- some first ones of these requests were answered, as many as were sent; where `whole` all of them and none met want of memory. No
--- more was read than is due for them, and no more answers are failed reads than the count of failures rose by
+-- more was read than is due for them, and where the store tells the bytes of the index and what is kept is good, no block that no hit
+-- reaches. No more answers are failed reads than the count of failures rose by
 pub record AnswersWithin (told : Option (List ℕ)) (whole : Bool) (qs : List Request) (old new : EngineView) (before now failed failed' : ℕ)
     (Sent : List Answered → Type 0) : Type 0 where
   pub answered : List Answered
@@ -263,5 +278,6 @@ pub record AnswersWithin (told : Option (List ℕ)) (whole : Bool) (qs : List Re
   pub n : ℕ
   pub are_due : AreDue told answered old n new
   pub reads : ReadsWithin n before now
+  pub sharp : ForSome told (λ b. StandsFor b old.index → AreGood b old → ReadsWithin (sharp_sum told b answered old n new are_due) before now)
   pub rose : RoseBy (read_failures answered) failed failed'
   pub sent : Sent answered

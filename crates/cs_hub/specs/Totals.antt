@@ -6,7 +6,8 @@
 --   by_conn c xs             the answers to the requests of one connection, in order, of those to the requests of all
 --   all_answers xs           those of all connections, in the order in which they were asked
 --   HasAskedOn b s broken xs of the bytes b that came on a connection these requests were asked, and s was sent by their answers
---   AsksInAll                the requests of all connections were asked so, and no more was read than is due for them
+--   AsksInAll                the requests of all connections were asked so, and no more was read than is due for them, and over bytes of the index
+--                            no block that no hit reaches
 --   HasAskedAll b s xs l     all that the bytes of a live connection ask was asked and answered, and l is kept of it
 --   AsksSoFar                the same of all connections, with what the core keeps of those that are live
 --   StaysAsked               what a round keeps of it
@@ -16,11 +17,12 @@ use Rattle.std.specs.FinSet as set
 use Rattle.cs_base.specs.declared.content.limits.TheConstants.{MAX_CONNECTION_BYTES}
 use Rattle.cs_base.specs.outside.Causes.{ReadsWithin}
 use Rattle.cs_base.specs.outside.Hub.{Came, Talk, sent_on}
-use Rattle.cs_engine.specs.Keeping.{EngineView}
+use Rattle.cs_engine.specs.Keeping.{AreGood, EngineView}
+use Rattle.cs_file.specs.Indexes.{StandsFor}
 use Rattle.cs_model.specs.Requests.{Request}
 use Rattle.cs_model_serving.specs.Connections.{Left}
 use Rattle.cs_model_serving.specs.Responses.{Response, all_bytes, memory_bytes}
-use Rattle.cs_hub.specs.DueReads.{Answered, AreDue, AreResponsesBy, HasMemory, IsRest, SentBy, heads_on, read_failures, requests_of, requests_on, requests_to}
+use Rattle.cs_hub.specs.DueReads.{Answered, AreDue, AreResponsesBy, HasMemory, IsRest, SentBy, heads_on, read_failures, requests_of, requests_on, requests_to, sharp_sum}
 use Rattle.cs_hub.specs.HubFollowing.{Lefts, left_at}
 use Rattle.cs_hub.specs.Streams.{RoseBy, bytes_that_came}
 
@@ -51,13 +53,14 @@ pub record HasAskedOn (b s : List ℕ) (broken : Bool) (xs : List Answered) : Ty
   pub all : (HasMemory xs × (length xs ≡ length (requests_on b))) ⊎ (broken ≡ true) ⊎ (part ≡ memory_bytes)
 
 -- each request that was asked is of a connection, and of the bytes that came on it, where the hub tells them. Each was asked of the
--- engine that the one before it left; no more was read than is due for all of them, and no more answers are failed reads than the
--- count of failures rose by
+-- engine that the one before it left; no more was read than is due for all of them, and where the store tells the bytes of the index and
+-- what was kept at first is good, no block that no hit reaches. No more answers are failed reads than the count of failures rose by
 pub record AsksInAll (told : Option (List ℕ)) (old new : EngineView) (before now failed failed' : ℕ) (talk : Option Talk) : Type 0 where
   pub asked : List (ℕ × Answered)
   pub n : ℕ
   pub are_due : AreDue told (all_answers asked) old n new
   pub reads : ReadsWithin n before now
+  pub sharp : ForSome told (λ b. StandsFor b old.index → AreGood b old → ReadsWithin (sharp_sum told b (all_answers asked) old n new are_due) before now)
   pub rose : RoseBy (read_failures (all_answers asked)) failed failed'
   pub each : ForSome talk (λ t. (c : ℕ) → HasAskedOn (came_within c t.came) (sent_on t c) (set.contains t.broken c) (by_conn c asked))
 

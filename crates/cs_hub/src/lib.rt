@@ -18,7 +18,6 @@ mod serving;
 mod slots;
 mod steps;
 
-pub use answering::Answerer;
-pub use outcomes::{RequestOutcome, outcome_of};
+pub use outcomes::{RequestOutcome, outcome_over};
 pub use serving::{ServeEnd, serve};
 pub use slots::Core;

@@ -1,5 +1,5 @@
 //! What no clause says: that an engine answers where there is memory, and goes on from what it kept.
-ghost use Rattle.std.specs.Prelude.{◌≡◌, IfOk, Some};
+ghost use Rattle.std.specs.Prelude.{◌≡◌, ◌≤◌, IfOk, Some};
 ghost use Rattle.cs_file.specs.Indexes.{HasAllBlocks};
 
 use crate::runs::same;
@@ -16,10 +16,24 @@ use std::test::Fail;
 pub(crate) fn engine_over<S: Store>(alloc: Global, store: &mut S) -> Result<Engine, Fail>
     ensures fits { IfOk result (λ e. HasAllBlocks (S.bytes store.new) e.index) }
 {
+    engine_keeping(alloc, store, 4)
+}
+
+/// An engine over the index file in a store, with room for so many answers.
+pub(crate) fn engine_keeping<S: Store>(
+    alloc: Global,
+    store: &mut S,
+    capacity: usize,
+) -> Result<Engine, Fail>
+    requires some { 1 ≤ capacity }
+    requires limit { capacity ≤ 256 }
+
+    ensures fits { IfOk result (λ e. HasAllBlocks (S.bytes store.new) e.index) }
+{
     let Ok(index) = open_index(alloc, store) else {
         return Err(Fail::new("no index"));
     };
-    Ok(Engine::new(alloc, index, 4)?)
+    Ok(Engine::new(alloc, index, capacity)?)
 }
 
 // The reply to a query, without facets.

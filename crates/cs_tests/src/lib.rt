@@ -12,6 +12,8 @@ mod hubs;
 #[cfg(test)]
 mod made_of_indexes;
 #[cfg(test)]
+mod plans;
+#[cfg(test)]
 mod runs;
 #[cfg(test)]
 mod serving;

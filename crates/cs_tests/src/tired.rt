@@ -10,9 +10,9 @@ use cs_worked::{FAILED_READ, THREE_DOCUMENTS, TYPED};
 use std::alloc::Global;
 use std::test::Fail;
 
-// The index file of the three documents, in a store.
-fn tired(alloc: Global) -> Result<TiredStore, Fail> {
-    let files = built(alloc, THREE_DOCUMENTS, b"")?;
+/// The index file of a collection, in a store.
+pub(crate) fn tired(alloc: Global, collection: &str) -> Result<TiredStore, Fail> {
+    let files = built(alloc, collection, b"")?;
     let Some(bytes) = files.bytes("I") else {
         return Err(Fail::new("not built"));
     };
@@ -22,7 +22,7 @@ fn tired(alloc: Global) -> Result<TiredStore, Fail> {
 #[test]
 fn a_failed_read_is_that_of_one_request(rt: HostRuntime) -> Result<(), Fail> {
     let alloc = rt.alloc();
-    let mut store = tired(alloc)?;
+    let mut store = tired(alloc, THREE_DOCUMENTS)?;
     let mut engine = engine_over(alloc, &mut store)?;
     let heads = format!(in alloc; "{}{}", TYPED.head, TYPED.head)?;
     let rows = [
@@ -43,7 +43,7 @@ fn a_failed_read_is_that_of_one_request(rt: HostRuntime) -> Result<(), Fail> {
 #[test]
 fn the_plan_behind_a_failed_read_is_fresh(rt: HostRuntime) -> Result<(), Fail> {
     let alloc = rt.alloc();
-    let mut store = tired(alloc)?;
+    let mut store = tired(alloc, THREE_DOCUMENTS)?;
     let mut engine = engine_over(alloc, &mut store)?;
     store.fail_at(1);
     let Ok(request) = request(alloc, b"q=typ") else {

@@ -4,12 +4,10 @@
 --   passes          a line whose answer was put is passed
 --   stops_there     a line whose answer wasn't put whole ends the script
 --   line_ok, line_err        the same of the result of putting it
---   refusal_is, reply_is     a refusal and a reply as the text of the line
---   refusal_put, reply_put, changed_put     over any files: the text of a refusal, of a reply and of a changed index file
---   change_line     the last names the rule and its place
-use Rattle.std.proofs.Common.{◌≡◌, ◌≢◌, ◌==◌, ℕ, ◌≤◌, true, false, List, [], ◌∷◌, ◌++◌, length, inl, inr, refl, sym, subst, Vec, Global}
+--   said_came       what came of it, as the result of putting it says
+use Rattle.std.proofs.Common.{◌≡◌, ◌≢◌, ◌==◌, ◌∙◌, ℕ, ◌≤◌, true, false, List, [], ◌∷◌, ◌++◌, length, inl, inr, refl, sym, ap, subst, Vec, Global}
 use Rattle.std.specs.Prelude.{Option, Some, None, is_some, Result, Ok, Err, OnOk, OnErr, IfOk, IfErr}
-use Rattle.std.specs.Option.{ForSome}
+use Rattle.std.specs.Result.{result_ok}
 use Rattle.cs_base.specs.declared.content.query.Query.{Query}
 use Rattle.cs_base.specs.declared.memory.Memory.{Memory}
 use Rattle.cs_engine.specs.Asking.{BreaksIndex}
@@ -22,11 +20,12 @@ use Rattle.cs_query.specs.declared.request.ReqFault.TheVariants as causes
 use Rattle.cs_base.specs.outside.Causes.{Rose}
 use Rattle.cs_base.specs.outside.Outside.{Grew, GrewByPrefix}
 use Rattle.cs_model.specs.Corpus.{Corpus}
+use Rattle.cs_model.specs.Faults.{changed_text}
 use Rattle.cs_model.specs.Outputs.{MayPut, line_fault, memory_text, read_text}
 use Rattle.cs_model.specs.Parameters.{request_of, request_refusal}
 use Rattle.cs_model.specs.Replies.{Reply}
 use Rattle.cs_model.specs.Requests.{Request, reply_of}
-use Rattle.cs_top.specs.Answering.{CameCounts, Costs, FileView, HasReply, HasText, MayAnswer, came_of_answer, line_bytes}
+use Rattle.cs_top.specs.Answering.{CameCounts, Costs, FileView, HasText, MayAnswer, came_of_answer, line_bytes}
 use Rattle.cs_top.specs.CommandLine.{failed, CausedBy}
 use Rattle.cs_top.specs.HitForms.{AtHand, form_by, shown_reply}
 use Rattle.cs_top.specs.Met.{Wrote}
@@ -41,7 +40,6 @@ use Rattle.cs_top.specs.declared.script.answers.Answer.{Answer}
 use Rattle.cs_top.specs.declared.script.answers.Answer.TheVariants as answers
 use Rattle.cs_top.specs.declared.words.HitForm.{HitForm}
 use Rattle.cs_top.proofs.LineTexts.{refused_own}
-use Rattle.cs_top.proofs.PutTextLemmas.{change_put, text_put}
 use Rattle.cs_top.proofs.ShownLemmas.{memory_shown, refused_shown, reply_in, reply_shown}
 use Rattle.cs_top.proofs.TextsApart.{memory_apart, own_unread, replied_apart}
 
@@ -89,40 +87,3 @@ said_came (Err e) a P is p = tt
 pub some_bytes : (l : List ℕ) → false ≡ (length l == 0) → l ≢ []
 some_bytes [] h e = absurd cc
 some_bytes (b ∷ l) h e = absurd cc
-
--- a refusal, as the answer to its line; without memory for its text that of want of memory
-pub refusal_is : (docs : AtHand) (f : FileView) (k : Corpus) (p : List ℕ) (e : ReqFault) (r : Result (Vec ℕ Global) Memory) (a : Answer) → IsCause p e → IfOk r (λ b. a ≡ answers.Text b) → OnErr r (a ≡ answers.Memory)
-    → IfOk r (λ b. b.items ≡ fault_text (faults.Refused e) ++ 10 ∷ []) → OnOk r (e ≢ causes.Memory) → HasText (MayAnswer docs f k) p a
-refusal_is docs f k p e (Ok b) a cause whole none is other =
-    subst (HasText (MayAnswer docs f k) p) (sym whole) (fault_text (faults.Refused e), is, inl (refused_shown docs k p e cause other), own_unread (form_by docs) (fault_text (faults.Refused e)) (refused_own (form_by docs) e other))
-refusal_is docs f k p e (Err x) a cause whole none is other = subst (HasText (MayAnswer docs f k) p) (sym none) tt
-
-none_there : (o : Option (List ℕ)) → (is_some o ≡ true → ⊥) → o ≡ None
-none_there None never = refl
-none_there (Some b) never = absurd (never refl)
-
--- the reply to a request, as the answer to its line
-pub reply_is : (docs : AtHand) (f : FileView) (k : Corpus) (p : List ℕ) (r : Request) (a : Answer) → request_refusal p ≡ None → r ≡ request_of p → HasReply docs k r a → (is_some f.made ≡ true → came_of_answer a ≢ came.Read) → HasText (MayAnswer docs f k) p a
-reply_is docs f k p r (answers.Text b) accepted is h unread =
-    (shown_reply docs r.query (reply_of k r), h, inl (reply_shown docs k p r accepted is), replied_apart (form_by docs) (shown_reply docs r.query (reply_of k r)) (reply_in docs r.query (reply_of k r)))
-reply_is docs f k p r answers.Memory accepted is h unread = tt
-reply_is docs f k p r answers.Read accepted is h unread = inr (none_there f.made (λ e. unread e refl), accepted, refl)
-reply_is docs f k p r (answers.Changed b) accepted is h unread = h
-
--- ---- over any files
-pub refusal_put : (form : HitForm) (e : ReqFault) (r : Result (Vec ℕ Global) Memory) (a : Answer) → IfOk r (λ b. a ≡ answers.Text b) → OnErr r (a ≡ answers.Memory) → IfOk r (λ b. b.items ≡ fault_text (faults.Refused e) ++ 10 ∷ []) → OnOk r (e ≢ causes.Memory) → HasTextBy form a
-refusal_put form e (Ok b) a whole none is other = text_put form (Ok b) a (fault_text (faults.Refused e)) whole none is (refused_own form e other)
-refusal_put form e (Err x) a whole none is other = text_put form (Err x) a (fault_text (faults.Refused e)) whole none is tt
-
-pub reply_put : (docs : AtHand) (q : Query) (p : Reply) (r : Result (Vec ℕ Global) Memory) (a : Answer) → IfOk r (λ b. a ≡ answers.Text b) → OnErr r (a ≡ answers.Memory) → IfOk r (λ b. b.items ≡ shown_reply docs q p ++ 10 ∷ []) → HasTextBy (form_by docs) a
-reply_put docs q p (Ok b) a whole none is = text_put (form_by docs) (Ok b) a (shown_reply docs q p) whole none is (inl (reply_in docs q p))
-reply_put docs q p (Err x) a whole none is = text_put (form_by docs) (Err x) a (shown_reply docs q p) whole none is tt
-
-pub changed_put : (form : HitForm) (o : Option (Vec ℕ Global)) (rule at : ℕ) → ForSome o (λ b. b.items ≡ fault_text (faults.Changed rule at) ++ 10 ∷ []) → HasTextBy form (answers.Changed o)
-unfolding fault_text
-changed_put form o rule at h = change_put form o rule at h
-
-pub change_line : (i : IndexView) (told : Option (List ℕ)) (o : Option (Vec ℕ Global)) (rule at : ℕ) → BreaksIndex i told rule at → ForSome o (λ b. b.items ≡ fault_text (faults.Changed rule at) ++ 10 ∷ []) → IsChangeLine i told (answers.Changed o)
-unfolding fault_text
-change_line i told None rule at broken h = tt
-change_line i told (Some b) rule at broken h = (rule, at, broken, h b refl)

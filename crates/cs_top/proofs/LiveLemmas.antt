@@ -3,7 +3,7 @@
 --   live_start                       before the first line
 --   live_goes_on, live_ends_here, live_ends_done     behind a line, at one at which it ends, and at the end of the file
 --   live_short, live_answered, live_read, live_changed     of `live`: its script ended early, each line was answered, a read failed
-use Rattle.std.proofs.Common.{◌≡◌, ℕ, suc, ◌+◌, ◌≤◌, List, [], ◌∷◌, ◌++◌, length, take, All, inl, inr, refl, sym, ap, subst, arith}
+use Rattle.std.proofs.Common.{◌≡◌, ℕ, suc, ◌+◌, ◌≤◌, List, [], ◌∷◌, ◌++◌, length, take, inl, inr, refl, sym, ap, subst, arith}
 use Rattle.std.specs.Prelude.{Option}
 use Rattle.std.proofs.lemmas.List.{take_all}
 use Rattle.std.proofs.lemmas.List.Elements.{All-nil, All-push}

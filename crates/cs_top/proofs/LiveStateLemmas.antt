@@ -8,7 +8,7 @@
 --   removed_there, removed_absent       by what a deletion answered
 --   read_line_tells, refused_outcome, nothing_added     a line whose document is read, one that is refused, and one without a document
 use Rattle.std.proofs.Common.{◌≡◌, ◌≢◌, ◌==◌, ℕ, ◌+◌, Bool, true, false, List, [], ◌∷◌, ◌++◌, length, length-append, inl, inr, refl, sym, ◌∙◌, ap, ap₂, subst, arith}
-use Rattle.std.specs.Prelude.{◌↔◌, MatchOption, Result, Ok, Err, Option, Some, None, fold, if◌then◌else◌}
+use Rattle.std.specs.Prelude.{◌↔◌, MatchOption, Result, Ok, Err, Some, None, fold, if◌then◌else◌}
 use Rattle.std.specs.FinMap as finmap
 use Rattle.std.proofs.lemmas.List.{append-nil, nil_from_length}
 use Rattle.std.proofs.lemmas.Bool.Decides.{nat_tests}
@@ -19,7 +19,7 @@ use Rattle.cs_base.specs.content.Orders.{by_row}
 use Rattle.cs_base.specs.declared.content.doc.Doc.{Doc}
 use Rattle.cs_base.specs.declared.content.scores.Weights.{Weights}
 use Rattle.cs_file.specs.Indexes.{IndexView, StandsFor, index_in}
-use Rattle.cs_live.specs.Lives.{AreGoodNow, IsAdded, IsBehind, IsRemoved, IsStateOf, LiveView, NamesFull, changes_in, changing, full_now, full_of, has_document, next_number}
+use Rattle.cs_live.specs.Lives.{AreGoodNow, HasAdded, IsBehind, IsRemoved, IsStateOf, LiveView, NamesFull, changes_in, changing, full_now, full_of, has_document, next_number}
 use Rattle.cs_live.specs.declared.fault.AddFault.{AddFault}
 use Rattle.cs_live.specs.declared.fault.RemoveFault.{RemoveFault}
 use Rattle.cs_live.specs.declared.fault.RemoveFault.TheVariants as removals
@@ -33,7 +33,7 @@ use Rattle.cs_model_live.specs.Courses.{IsChanged, additions_in}
 use Rattle.cs_model_live.specs.LiveLines.{Outcome as Became, absent_text, added_outcome, by_refusals, change_text, deleted_outcome, document_text, done, full_text, said, second_line}
 use Rattle.cs_model_live.specs.LiveStates.{Full, LiveState, changed, full_refusal, next_doc}
 use Rattle.cs_model_live.specs.declared.limits.TheConstants.{MAX_DOC_DIGITS}
-use Rattle.cs_top.specs.LiveAnswering.{IsAt, IsLiveAt, Tells}
+use Rattle.cs_top.specs.LiveAnswering.{IsLiveAt, Tells}
 use Rattle.cs_top.specs.LiveTexts.{told_bytes}
 use Rattle.cs_top.specs.declared.live.outcomes.Outcome.{Outcome}
 use Rattle.cs_top.specs.declared.live.outcomes.Outcome.TheVariants.{Added, Deleted}
@@ -103,9 +103,6 @@ module _ (b : List ℕ) (l : LiveView) (s : LiveState) (h : IsLiveAt b l s) wher
   behind_file : fold (applied w) (started k) h.at.made ≡ changing l b
   behind_file = subst (λ v. fold (applied v) (started k) h.at.made ≡ changing l b) weigh h.at.behind.corpus
 
-  corpus_now : s.corpus ≡ (changing l b).corpus
-  corpus_now = by_file.corpus ∙ ap (λ (x : Changing). x.corpus) behind_file
-
   counted : s.changes ≡ changes_in l
   counted = by_file.changes ∙ sym h.at.behind.changes
 
@@ -128,7 +125,7 @@ module _ (b : List ℕ) (l : LiveView) (s : LiveState) (h : IsLiveAt b l s) wher
     abbrev became : Became
     became = by_refusals None (full_refusal w k s doc) doc
 
-    pub added_tells : (n m : ℕ) (new : LiveView) → n ≡ next_number l → m ≡ changes_in new → IsAdded l doc new
+    pub added_tells : (n m : ℕ) (new : LiveView) → n ≡ next_number l → m ≡ changes_in new → HasAdded l doc new
         → ((cs : List Change) → StandsFor b l.state.index → IsBehind b cs l → IsBehind b (cs ++ added doc ∷ []) new) → AreGoodNow b new → full_now l doc ≡ None
         → (e : LiveState) × Tells b s became (Added n m) e × IsLiveAt b new e
     added_tells n m new number count is behind good room =
@@ -155,9 +152,9 @@ module _ (b : List ℕ) (l : LiveView) (s : LiveState) (h : IsLiveAt b l s) wher
   stays_told m o new tells same = (s, tells, subst (λ x. IsLiveAt b x s) (sym same) h)
 
   -- ---- deletions
-  module _ (digits : List ℕ) (d : ℕ) (form : has_digits MAX_DOC_DIGITS digits ≡ true) (number : d ≡ number_of digits) (there : finmap.contains_key (changing l b).corpus.titles d ≡ has_document l d) where
+  module _ (digits : List ℕ) (d : ℕ) (form : has_digits MAX_DOC_DIGITS digits ≡ true) (number : d ≡ number_of digits) (there : finmap.contains_key s.corpus.titles d ≡ has_document l d) where
     known : finmap.contains_key s.corpus.titles (number_of digits) ≡ has_document l d
-    known = ap₂ (λ (x : Corpus) y. finmap.contains_key x.titles y) corpus_now (sym number) ∙ there
+    known = ap (finmap.contains_key s.corpus.titles) (sym number) ∙ there
 
     became_deleted : has_document l d ≡ true → deleted_outcome s digits ≡ done (deleted (number_of digits))
     became_deleted has = let k : finmap.contains_key s.corpus.titles (number_of digits) ≡ true = known ∙ has in rw (form, k) refl

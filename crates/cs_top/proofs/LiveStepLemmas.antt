@@ -6,8 +6,8 @@
 --   asked_step             of a line that asks
 --   live_ok, live_err      a line whose text was put, and one whose text wasn't put whole
 --   answer_text            over any files: the text of an answer, by what comes of the line
-use Rattle.std.proofs.Common.{◌≡◌, ◌≢◌, ℕ, ◌≤◌, Bool, true, false, List, [], ◌∷◌, ◌++◌, drop, length, inl, inr, refl, sym, ◌∙◌, ap, subst, arith}
-use Rattle.std.specs.Prelude.{All, codes, if◌then◌else◌, Option, Some, None, Result, Ok, Err, OnOk, OnErr, IfOk, IfErr}
+use Rattle.std.proofs.Common.{◌≡◌, ◌≢◌, ℕ, Bool, true, false, List, [], ◌∷◌, ◌++◌, drop, length, inl, inr, refl, sym, ◌∙◌, ap, subst, arith}
+use Rattle.std.specs.Prelude.{All, codes, if◌then◌else◌, Option, None, Result, Ok, Err, OnOk, OnErr, IfOk, IfErr}
 use Rattle.std.proofs.lemmas.List.{append_cancel_right}
 use Rattle.std.proofs.lemmas.List.Elements.{All-drop}
 use Rattle.cs_model.specs.Answers.{begins}
@@ -18,7 +18,6 @@ use Rattle.cs_hub.specs.Outcomes.{ComesOf, IsRightOutcome, fails_read}
 use Rattle.cs_hub.specs.declared.outcomes.RequestOutcome.{RequestOutcome}
 use Rattle.cs_hub.specs.declared.outcomes.RequestOutcome.TheVariants as outcomes
 use Rattle.cs_json.specs.FaultTexts.{fault_text}
-use Rattle.cs_json.specs.declared.fault.Fault.TheVariants as faults
 use Rattle.cs_model.specs.Corpus.{Corpus}
 use Rattle.cs_model.specs.Outputs.{IsChangedText, line_fault, memory_text, read_text, text}
 use Rattle.cs_model.specs.Parameters.{request_of}
@@ -27,8 +26,7 @@ use Rattle.cs_model_index.specs.Sections.{file_corpus, image_of}
 use Rattle.cs_model_live.specs.Courses.{IsLineStep, MayFail, failed, own}
 use Rattle.cs_model_live.specs.LiveLines.{LiveLine, Outcome as Became, adds, asks, deletes, line_outcome, live_line, outcome, outcome_state, outcome_text, said}
 use Rattle.cs_model_live.specs.LiveStates.{LiveState}
-use Rattle.cs_query.specs.RequestView.{asked}
-use Rattle.cs_top.specs.Answering.{CameCounts, Costs, came_of_answer, line_bytes}
+use Rattle.cs_top.specs.Answering.{Costs, came_of_answer, line_bytes}
 use Rattle.cs_top.specs.CommandLine.{CausedBy}
 use Rattle.cs_top.specs.LiveAnswering.{LiveLeaves, LiveStanding, Tells}
 use Rattle.cs_top.specs.LiveSteps.{IsLiveStep, LivePasses, LineText}
@@ -48,7 +46,7 @@ use Rattle.cs_top.specs.declared.words.HitForm.TheVariants.{Titled}
 use Rattle.cs_top.proofs.LineTexts.{refused_own, refused_text, request_text}
 use Rattle.cs_top.proofs.LiveTextsApart.{live_apart}
 use Rattle.cs_top.proofs.ShownLemmas.{reply_in}
-use Rattle.cs_top.proofs.TextsApart.{changed_unread, memory_apart}
+use Rattle.cs_top.proofs.TextsApart.{changed_unread}
 
 -- ---- what stands behind the first bytes of a line
 abbrev rest_of : LiveLine → List ℕ
@@ -109,13 +107,6 @@ came_text p outcomes.Memory x y t h is = subst IsLiveText (sym is) live_apart.me
 
 pub answer_text : (p : List ℕ) (o : RequestOutcome) (a : Answer) (x y : LiveStanding) → ComesOf LiveLeaves p x o y → (by : IsAnswerBy None o a) → TextOf IsLiveText (came_of_answer a) by.text
 answer_text p o a x y comes by = subst (λ c. TextOf IsLiveText c by.text) (sym by.came) (came_text p o x y by.text comes by.told)
-
-pub came_counts : (o : RequestOutcome) (n m : ℕ) → CausedReads (fails_read o) n m → CameCounts (came_of_outcome o) n m
-came_counts (outcomes.Refused e) n m c = record { later = c.later; read = λ x. cc x; quiet = λ x. c.quiet refl }
-came_counts (outcomes.Replied q r) n m c = record { later = c.later; read = λ x. cc x; quiet = λ x. c.quiet refl }
-came_counts outcomes.Read n m c = record { later = c.later; read = λ x. c.failed refl; quiet = λ x. absurd (x refl) }
-came_counts (outcomes.Changed rule at) n m c = record { later = c.later; read = λ x. cc x; quiet = λ x. c.quiet refl }
-came_counts outcomes.Memory n m c = record { later = c.later; read = λ x. cc x; quiet = λ x. c.quiet refl }
 
 -- by what may be put for it
 costs_by : (own_text : (t : List ℕ) → IsLiveText t → t ≢ read_text) (k : Corpus) (p : List ℕ) (o : RequestOutcome) (t : List ℕ) (n m : ℕ) → IsRightOutcome k p o → TextOf IsLiveText (came_of_outcome o) t → CausedReads (fails_read o) n m

@@ -6,7 +6,7 @@ use Rattle.std.specs.Prelude.{get_or}
 use Rattle.serde_json.proofs.OnLiterals.{serde_json_on_literals}
 use Rattle.cs_model.specs.Collection.{CollectionRefusal}
 use Rattle.cs_model.specs.Faults.{changed_text, error_text}
-use Rattle.cs_model.specs.Outputs.{IsChangedText, memory_text, read_text}
+use Rattle.cs_model.specs.Outputs.{IsChangedText, read_text}
 use Rattle.cs_model_live.specs.LiveLines.{absent_text, added_text, change_text, deleted_text, document_text, full_text}
 use Rattle.cs_model_live.specs.LiveStates.{Full}
 use Rattle.cs_top.specs.LiveTexts.{IsLiveText, IsOutcomeText}

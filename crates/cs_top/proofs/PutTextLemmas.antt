@@ -4,17 +4,13 @@
 --   puts_none, puts_more     for no lines, and for one more; `puts_none_of` and the like of any such texts
 --   puts_cut, nothing_put    where the script ends at a line, or before the first one
 --   puts_some                of any lines
---   memory_put, read_put, text_put, change_put     an answer has a text by what comes of its line
 --   line_puts, line_cuts     a line whose answer was put, and one whose answer wasn't put whole; `puts_line_of` and `cuts_line_of` of any such texts
-use Rattle.std.proofs.Common.{◌≡◌, ◌≢◌, ◌⊎◌, ℕ, List, [], ◌∷◌, ◌++◌, Contains, inl, inr, refl, sym, ◌∙◌, ap, subst, Vec, Global}
-use Rattle.std.specs.Prelude.{Option, Some, None, Result, Ok, Err, IfOk, IfErr, OnOk, OnErr}
-use Rattle.std.specs.Option.{ForSome}
+use Rattle.std.proofs.Common.{◌≡◌, ◌≢◌, ◌⊎◌, ℕ, List, [], ◌∷◌, ◌++◌, Contains, inl, inr, refl, sym, ◌∙◌, ap, subst}
+use Rattle.std.specs.Prelude.{Option, Result, Ok, Err, IfOk, IfErr, OnOk, OnErr}
 use Rattle.std.proofs.lemmas.List.Elements.{All-nil, All-push, Contains-append_left, Contains-push}
-use Rattle.cs_base.specs.declared.memory.Memory.{Memory}
 use Rattle.cs_base.specs.outside.Causes.{Rose}
 use Rattle.cs_base.specs.outside.Outside.{Grew, GrewByPrefix}
 use Rattle.cs_base.proofs.GrewLemmas.{grew_none, grew_twice, grew_begun, grew_then_begun}
-use Rattle.cs_model.specs.Faults.{changed_text}
 use Rattle.cs_model.specs.Outputs.{IsChangedText, memory_text, put_of, read_text}
 use Rattle.cs_model.proofs.OutputLemmas.{put_of-push}
 use Rattle.cs_top.specs.Answering.{came_of_answer, line_bytes, worst}
@@ -27,7 +23,6 @@ use Rattle.cs_top.specs.declared.lines.ScriptStop.TheVariants as scripts
 use Rattle.cs_top.specs.declared.script.WhatCame.{WhatCame}
 use Rattle.cs_top.specs.declared.script.WhatCame.TheVariants.{Answered, Read, Changed}
 use Rattle.cs_top.specs.declared.script.answers.Answer.{Answer}
-use Rattle.cs_top.specs.declared.script.answers.Answer.TheVariants as answers
 use Rattle.cs_top.specs.declared.words.HitForm.{HitForm}
 use Rattle.cs_top.proofs.TallyLemmas.{read_first}
 use Rattle.cs_top.proofs.TextsApart.{memory_apart, changed_unread, own_unread, own_unchanged}
@@ -152,22 +147,6 @@ pub puts_cut : (form : HitForm) (came : WhatCame) (old now : Option (List ℕ)) 
 puts_cut form = puts_cut_of (IsOwnText form) (own_apart form)
 
 -- ---- one line
-pub memory_put : (form : HitForm) → HasTextBy form answers.Memory
-memory_put form = (memory_text, refl, inr (inr refl))
-
-pub read_put : (form : HitForm) → HasTextBy form answers.Read
-read_put form = (read_text, refl, refl)
-
--- a text of its own, or without memory for it that of want of memory
-pub text_put : (form : HitForm) (r : Result (Vec ℕ Global) Memory) (a : Answer) (u : List ℕ) → IfOk r (λ b. a ≡ answers.Text b) → OnErr r (a ≡ answers.Memory) → IfOk r (λ b. b.items ≡ u ++ 10 ∷ []) → OnOk r (IsOwnText form u) → HasTextBy form a
-text_put form (Ok b) a u whole none is own = subst (HasTextBy form) (sym whole) (u, is, own)
-text_put form (Err e) a u whole none is own = subst (HasTextBy form) (sym none) (memory_put form)
-
--- that of a change, or without memory for it that of want of memory
-pub change_put : (form : HitForm) (o : Option (Vec ℕ Global)) (rule at : ℕ) → ForSome o (λ b. b.items ≡ changed_text rule at ++ 10 ∷ []) → HasTextBy form (answers.Changed o)
-change_put form None rule at h = (memory_text, refl, inr refl)
-change_put form (Some b) rule at h = (changed_text rule at, h b refl, inl (rule, at, refl))
-
 -- a line whose text was put, and one whose text wasn't put whole
 module _ (own : OwnText) (came : WhatCame) (bytes t : List ℕ) (is : bytes ≡ t ++ 10 ∷ []) (by : TextOf own came t) where
   pub puts_line_of : {E : Type 0} (r : Result WhatCame E) (old new : Option (List ℕ)) → OnOk r (Grew old bytes new) → IfOk r (λ c. c ≡ came) → IfOk r (λ x. PutsLineOf own x old new)

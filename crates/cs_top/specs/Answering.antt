@@ -16,7 +16,6 @@
 --   came_of_answer a           what comes of a line by what is put for it
 --   line_bytes a               what is put for it, with its line ending
 --   HasText A l a              what is put for a line has a text by A; no change is put
---   HasReply docs k r a        what is put for a request has the text of its reply, or of a failed read
 use Rattle.std.specs.Prelude.{◌≡◌, ◌≢◌, ◌⊎◌, ℕ, ◌≤◌, true, List, [], ◌∷◌, ◌++◌, Option, Some, None, is_some}
 use Rattle.std.specs.Option.{option_or}
 use Rattle.cs_base.specs.outside.Causes.{Rose}
@@ -26,9 +25,8 @@ use Rattle.cs_file.specs.Indexes.{IndexView, HasAllBlocks, StandsFor}
 use Rattle.cs_model.specs.Corpus.{Corpus}
 use Rattle.cs_model.specs.Outputs.{MayPut, IsAnswer, memory_text, read_text}
 use Rattle.cs_model.specs.Parameters.{request_refusal}
-use Rattle.cs_model.specs.Requests.{Request, reply_of}
 use Rattle.cs_model_index.specs.Sections.{file_corpus}
-use Rattle.cs_top.specs.HitForms.{AtHand, MayShow, shown_reply}
+use Rattle.cs_top.specs.HitForms.{AtHand, MayShow}
 use Rattle.cs_top.specs.Met.{HasToldSize}
 use Rattle.cs_top.specs.declared.script.WhatCame.{WhatCame}
 use Rattle.cs_top.specs.declared.script.WhatCame.TheVariants.{Answered, Read, Changed}
@@ -117,10 +115,3 @@ HasText A l (answers.Text b) = (t : List ℕ) × (b.items ≡ t ++ 10 ∷ []) ×
 HasText A l answers.Memory = Unit {0}
 HasText A l answers.Read = A l read_text
 HasText A l (answers.Changed b) = ⊥
-
--- the text of the reply, want of memory or a failed read
-abbrev pub HasReply : AtHand → Corpus → Request → Answer → Type 0
-HasReply docs k r (answers.Text b) = b.items ≡ shown_reply docs r.query (reply_of k r) ++ 10 ∷ []
-HasReply docs k r answers.Memory = Unit {0}
-HasReply docs k r answers.Read = Unit {0}
-HasReply docs k r (answers.Changed b) = ⊥

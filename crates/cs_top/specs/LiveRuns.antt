@@ -19,7 +19,7 @@ use Rattle.cs_model.specs.Outputs.{IsChangedText, failed_reads, script_lines}
 use Rattle.cs_model_index.specs.Sections.{file_corpus, image_of}
 use Rattle.cs_model_live.specs.Courses.{Course}
 use Rattle.cs_model_live.specs.LiveStates.{LiveState, before_changes}
-use Rattle.cs_top.specs.CommandLine.{Ending, usage, refused, absent, damaged, changed, failed, no_memory, done, script_refused}
+use Rattle.cs_top.specs.CommandLine.{Ending, usage, refused, absent, damaged, failed, no_memory, done, script_refused}
 use Rattle.cs_top.specs.LiveTexts.{IsLiveText}
 use Rattle.cs_top.specs.Met.{Met, Wrote, held_bytes}
 use Rattle.cs_top.specs.PutTexts.{EndsOf}

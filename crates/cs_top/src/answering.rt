@@ -1,15 +1,14 @@
-//! What answers requests: an engine, over an index file in memory or one that the files hold.
-ghost use Rattle.std.specs.Prelude.{◌≡◌, true, false, Some, None, [], IfErr, IfOk, is_some};
-ghost use Rattle.cs_engine.specs.Asking.{IsChangeIn};
-ghost use Rattle.cs_file.specs.{CallAnswers.{is_changed, is_read}, Indexes.{CausedReads}};
-ghost use Rattle.cs_model.specs.{Corpus.{Corpus}, Parameters.{HoldsLimits}, Requests.{reply_of}};
-ghost use Rattle.cs_query.specs.RequestView.{asked};
+//! What answers lines: an engine, over an index file in memory or one that the files hold.
+ghost use Rattle.std.specs.Prelude.{◌≡◌, true, false, Some, None, [], is_some};
+ghost use Rattle.cs_file.specs.Indexes.{CausedReads};
+ghost use Rattle.cs_hub.specs.Outcomes.{IsOutcome, IsRightOutcome, TellsChange, fails_read};
+ghost use Rattle.cs_model.specs.Corpus.{Corpus};
 ghost use Rattle.cs_top.specs.Answering.{AnswersOver, IsThere, bytes_there};
 
 use crate::files::HeldFile;
 use cs_base::{FileStore, Files, MemStore};
-use cs_engine::{AskFault, Engine, Note};
-use cs_query::{Reply, Request};
+use cs_engine::Engine;
+use cs_hub::{RequestOutcome, outcome_over};
 use std::alloc::Global;
 use std::marker::Model;
 
@@ -57,32 +56,31 @@ impl<'a> IndexFile<'a> {
     }
 }
 
-/// The reply to a request, over an index file that is there, and how it was answered.
-pub(crate) fn respond<F: Files>(
+/// Asks what a line asks, over an index file that is there, and tells what came of it.
+pub(crate) fn outcome_over_file<F: Files>(
     alloc: Global,
     engine: &mut Engine,
     file: &mut IndexFile<'_>,
     files: &mut F,
-    request: &Request,
-) -> Result<(Reply, Note), AskFault>
-    requires limits { HoldsLimits (asked request.now) }
+    line: &[u8],
+) -> RequestOutcome
     requires there { IsThere engine.old.index file.old (F.held files.old) }
 
-    ensures ok { (k : Corpus) → AnswersOver engine.old file.old (F.held files.old) k → IfOk result (λ r. r.0 ≡ reply_of k (asked request.now)) }
-    ensures unchanged { (k : Corpus) → AnswersOver engine.old file.old (F.held files.old) k → is_changed result ≡ false }
-    ensures changed { IfErr result (IsChangeIn engine.old.index (bytes_there file.old (F.held files.old))) }
+    ensures outcome { IsOutcome line.now result }
+    ensures right { (k : Corpus) → AnswersOver engine.old file.old (F.held files.old) k → IsRightOutcome k line.now result }
+    ensures changed { TellsChange engine.old.index (bytes_there file.old (F.held files.old)) result }
     ensures stays { (k : Corpus) → AnswersOver engine.old file.old (F.held files.old) k → AnswersOver engine.new file.new (F.held files.new) k }
-    ensures unread { is_some file.old.made ≡ true → is_read result ≡ false }
+    ensures unread { is_some file.old.made ≡ true → fails_read result ≡ false }
     ensures engine { engine.new.index ≡ engine.old.index }
     ensures file { file.new ≡ file.old }
     ensures files { F.held files.new ≡ F.held files.old }
-    ensures caused { CausedReads (is_read result) (F.faults files.old) (F.faults files.new) }
+    ensures caused { CausedReads (fails_read result) (F.faults files.old) (F.faults files.new) }
 {
     match &mut file.home {
-        Home::Memory(store) => engine.ask(alloc, store, request),
+        Home::Memory(store) => outcome_over(alloc, engine, store, line),
         Home::Files(held) => {
             let mut store = FileStore::new(files, held.name, held.size);
-            engine.ask(alloc, &mut store, request)
+            outcome_over(alloc, engine, &mut store, line)
         }
     }
 }

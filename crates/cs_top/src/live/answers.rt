@@ -4,7 +4,7 @@ ghost use Rattle.cs_base.specs.content.Bytes.{line_feed};
 ghost use Rattle.cs_base.specs.outside.Outside.{file_bytes};
 ghost use Rattle.cs_file.specs.Indexes.{HasAllBlocks};
 ghost use Rattle.cs_base.specs.declared.content.{limits.TheConstants.{MAX_SCRIPT_LINE_BYTES}, scores.Weights.{Weights}};
-ghost use Rattle.cs_live.specs.Lives.{IsAccepted, IsStateOf};
+ghost use Rattle.cs_live.specs.Lives.{IsOnlyDoc, IsStateOf};
 ghost use Rattle.cs_live_lines.specs.LineViews.{IsOnlyDocument};
 ghost use Rattle.cs_model.specs.Weights.{AreWeights};
 ghost use Rattle.cs_model_index.specs.Sections.{file_corpus, image_of};
@@ -130,6 +130,7 @@ fn delete(alloc: Global, live: &mut Live, digits: &[u8]) -> Outcome
     let Some(doc) = doc_number(digits) else {
         return Outcome::Line(change_line());
     };
+    is_in_state(live);
     match live.remove(alloc, doc) {
         Ok(()) => Outcome::Deleted {
             changes: live.changes(),
@@ -143,7 +144,7 @@ fn delete(alloc: Global, live: &mut Live, digits: &[u8]) -> Outcome
 fn can_be_added(live: &Live, document: &Doc)
     requires { (w : Weights) → AreWeights w → IsOnlyDocument w document.now }
 
-    ensures { IsAccepted live.now.state.index.weights document.now }
+    ensures { IsOnlyDoc live.now.state.index.weights document.now }
 {
     let _ = live.weights();
 }

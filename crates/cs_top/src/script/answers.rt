@@ -1,15 +1,10 @@
 //! One line of a script, answered.
-ghost use Rattle.std.specs.Prelude.{◌≡◌, ◌≢◌, ◌≤◌, ◌++◌, ◌∷◌, [], true, IfOk, IfErr, OnOk, OnErr, is_some};
-ghost use Rattle.std.specs.Option.{ForSome};
+ghost use Rattle.std.specs.Prelude.{◌≡◌, ◌≤◌, ◌++◌, ◌∷◌, [], true, IfOk, IfErr, OnOk, OnErr, is_some};
 ghost use Rattle.cs_base.specs.outside.Outside.{Grew, GrewByPrefix};
 ghost use Rattle.cs_json.specs.FaultTexts.{fault_text};
-ghost use Rattle.cs_json.specs.declared.fault.Fault.TheVariants as faults;
 ghost use Rattle.cs_model.specs.Corpus.{Corpus};
 ghost use Rattle.cs_model.specs.Outputs.{memory_text, read_text};
-ghost use Rattle.cs_model.specs.Parameters.{HoldsLimits};
-ghost use Rattle.cs_query.specs.RequestView.{asked};
-ghost use Rattle.cs_query.specs.declared.request.ReqFault.{ReqFault};
-ghost use Rattle.cs_top.specs.Answering.{AnswersOver, CameOver, HasReply, HasText, IsThere, MayAnswer, StaysOver, bytes_there, came_of_answer, line_bytes};
+ghost use Rattle.cs_top.specs.Answering.{AnswersOver, CameOver, HasText, IsThere, MayAnswer, StaysOver, bytes_there, came_of_answer, line_bytes};
 ghost use Rattle.cs_top.specs.CommandLine.{CausedBy};
 ghost use Rattle.cs_top.specs.HitForms.{form_by, shown_reply};
 ghost use Rattle.cs_top.specs.declared.script.answers.Answer.TheVariants as answers;
@@ -19,16 +14,15 @@ ghost use Rattle.cs_top.specs.PutTexts.{CutsLine, HasTextBy, IsChangeLine, PutsL
 ghost use Rattle.cs_top.specs.ScriptEndings.{Passes, StopsAt};
 ghost use Rattle.cs_top.specs.Views.{of_script, stop_ending};
 
-use crate::answering::{IndexFile, respond};
+use crate::answering::{IndexFile, outcome_over_file};
 use crate::lines::{ScriptStop, line_fault};
 use crate::script::WhatCame;
 use crate::showing::Showing;
 use cs_base::{Files, Memory, Query, Sink};
-use cs_engine::{AskFault, Engine};
-use cs_http::request;
+use cs_engine::Engine;
 use cs_hub::RequestOutcome;
 use cs_json::{Fault, fault_bytes};
-use cs_query::{Reply, ReqFault, Request};
+use cs_query::Reply;
 use std::alloc::Global;
 
 /// What is put for a line that is read, with its line ending.
@@ -146,53 +140,28 @@ fn answer_params<F: Files>(
     ensures came { CameOver engine.old file.old (F.held files.old) (came_of_answer result) (F.faults files.old) (F.faults files.new) }
     ensures text { (k : Corpus) → AnswersOver engine.old file.old (F.held files.old) k → HasText (MayAnswer showing.now file.old k) line.now result }
     ensures texts { HasTextBy (form_by showing.now) result }
-    ensures over { StaysOver engine.old engine.new file.old file.new (F.held files.old) (F.held files.new) }
-{
-    match request(showing.alloc, line) {
-        Ok(wanted) => answer_request(showing, engine, file, files, &wanted),
-        Err(fault) => text_or_memory(refusal_line(showing.alloc, fault)),
-    }
-}
-
-// What is put for a line that is a request.
-fn answer_request<F: Files>(
-    showing: &Showing<'_>,
-    engine: &mut Engine,
-    file: &mut IndexFile<'_>,
-    files: &mut F,
-    wanted: &Request,
-) -> Answer
-    requires limits { HoldsLimits (asked wanted.now) }
-    requires there { IsThere engine.old.index file.old (F.held files.old) }
-
-    ensures came { CameOver engine.old file.old (F.held files.old) (came_of_answer result) (F.faults files.old) (F.faults files.new) }
-    ensures text { (k : Corpus) → AnswersOver engine.old file.old (F.held files.old) k → HasReply showing.now k (asked wanted.now) result }
-    ensures texts { HasTextBy (form_by showing.now) result }
     ensures changed { IsChangeLine engine.old.index (bytes_there file.old (F.held files.old)) result }
     ensures over { StaysOver engine.old engine.new file.old file.new (F.held files.old) (F.held files.new) }
 {
-    match respond(showing.alloc, engine, file, files, wanted) {
-        Ok((reply, _)) => text_or_memory(reply_line(showing, &wanted.query, &reply)),
-        Err(AskFault::Memory) => Answer::Memory,
-        Err(AskFault::Read) => Answer::Read,
-        Err(AskFault::Changed { rule, at }) => {
-            Answer::Changed(changed_line(showing.alloc, rule, at))
-        }
-    }
+    let outcome = outcome_over_file(showing.alloc, engine, file, files, line);
+    answer_by(showing, outcome)
 }
 
 /// What is put where this came of parameters.
 pub(crate) fn answer_by(showing: &Showing<'_>, outcome: RequestOutcome) -> Answer
     ensures { IsAnswerBy showing.now outcome result }
 {
+    let alloc = showing.alloc;
     match outcome {
-        RequestOutcome::Refused(fault) => text_or_memory(refusal_line(showing.alloc, fault)),
-        RequestOutcome::Replied(wanted, reply) => {
-            text_or_memory(reply_line(showing, &wanted.query, &reply))
+        RequestOutcome::Refused(fault) => {
+            text_or_memory(fault_line(alloc, &Fault::Refused(fault)))
+        }
+        RequestOutcome::Replied(request, reply) => {
+            text_or_memory(reply_line(showing, &request.query, &reply))
         }
         RequestOutcome::Read => Answer::Read,
         RequestOutcome::Changed { rule, at } => {
-            Answer::Changed(changed_line(showing.alloc, rule, at))
+            Answer::Changed(fault_line(alloc, &Fault::Changed { rule, at }).ok())
         }
         RequestOutcome::Memory => Answer::Memory,
     }
@@ -217,28 +186,11 @@ fn reply_line(showing: &Showing<'_>, query: &Query, reply: &Reply) -> Result<Vec
     Ok(bytes)
 }
 
-// The text of a changed index file, and its line ending; None where there is no memory for it.
-fn changed_line(alloc: Global, rule: u8, at: u64) -> Option<Vec<u8>>
-    ensures { ForSome result (λ b. b.items ≡ fault_text (faults.Changed rule at) ++ 10 ∷ []) }
+// The text of a fault, and its line ending.
+fn fault_line(alloc: Global, fault: &Fault) -> Result<Vec<u8>, Memory>
+    ensures { IfOk result (λ b. b.items ≡ fault_text fault.now ++ 10 ∷ []) }
 {
-    let Ok(mut bytes) = fault_bytes(alloc, &Fault::Changed { rule, at }) else {
-        return None;
-    };
-    match bytes.push(b'\n') {
-        Ok(()) => Some(bytes),
-        Err(_) => None,
-    }
-}
-
-// The text of a refusal, and its line ending. Want of memory isn't one.
-fn refusal_line(alloc: Global, fault: ReqFault) -> Result<Vec<u8>, Memory>
-    ensures text { IfOk result (λ b. b.items ≡ fault_text (faults.Refused fault) ++ 10 ∷ []) }
-    ensures refused { OnOk result (fault ≢ ReqFault.Memory) }
-{
-    if let ReqFault::Memory = fault {
-        return Err(Memory);
-    }
-    let mut bytes = fault_bytes(alloc, &Fault::Refused(fault))?;
+    let mut bytes = fault_bytes(alloc, fault)?;
     bytes.push(b'\n')?;
     Ok(bytes)
 }

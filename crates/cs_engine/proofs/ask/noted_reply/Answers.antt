@@ -1,15 +1,19 @@
 use Rattle.std.proofs.Common.{◌≡◌, ◌∙◌, ap, subst, sym, arith, length}
 use Rattle.std.specs.Prelude.{IfOk}
+use Rattle.cs_base.specs.declared.content.doc.Base.{Base}
 use Rattle.cs_model.specs.Requests.{reply_of}
 use Rattle.cs_model_kept.specs.Due.{met_by}
 use Rattle.cs_model_kept.specs.KeptList.{after, kept_at}
+use Rattle.cs_model_kept.specs.Sharp.{sharp_by}
 use Rattle.cs_query.specs.RequestView.{asked}
 use Rattle.cs_engine.specs.Asking.{division, titles_asked, titles_read}
 use Rattle.cs_engine.specs.HeldRanges.{FitsRange, IsHeldOver}
 use Rattle.cs_engine.specs.Keeping.{HoldsGood, IsKeptBehind, KeepsFitting, note_plan}
+use Rattle.cs_engine.specs.Skipping.{hit_of_facets}
 use Rattle.cs_engine.specs.Sources.{seen}
 use Rattle.cs_engine.specs.Stocked.{corpus_in}
 use Rattle.cs_engine.proofs.CountedRanges.{counted_fits, counted_held}
+use Rattle.cs_engine.proofs.InsideLemmas.{facets_hit_less}
 use Rattle.cs_engine.proofs.KeepingLemmas.{after_is, behind_fits, good_behind, is_note_plan, kept_behind, kept_is, was_had}
 use Rattle.cs_engine.proofs.LentLemmas.{due_is, err_due, refusal_right}
 use Rattle.cs_engine.proofs.RangeLemmas.{still_held}
@@ -68,7 +72,8 @@ returns-in_err-reply-clause-reads g c =
     (titles_asked r c.from_residual-in_err-reply.result) in
     let told = err_due r c.from_residual-in_err-reply.result c.from_residual-in_err-reply.ensures.0 in
     let read = ap (titles_read r) c.in_err-reply.was in
-    within_both c.find_by.ensures.reads c.show-shown.ensures.reads (omega (arith, all, same, told, read))
+    let less = facets_hit_less (g.I.Source.view c.args.over.index.now) c.requires.opened.source c.in_ok-found.found.hits r.facets in
+    within_both c.find_by.ensures.reads c.show-shown.ensures.reads (omega (arith, all, same, told, read, less))
 
 -- ---- the reply
 pub returns-clause-held : goal.returns-clause-held
@@ -139,4 +144,43 @@ returns-clause-reads g c =
     let same = ap (met_by (division (g.I.Source.view c.args.over.index.now).index) r.query) plan in
     let all = due_is (division (g.I.Source.view c.args.over.index.now).index) r (note_plan r.query c.args.answers.now) (length c.in_ok-reply.reply.hits) in
     let read = ap (titles_read r) c.in_ok-reply.was in
-    within_both c.find_by.ensures.reads c.show-shown.ensures.reads (omega (arith, all, same, read))
+    let less = facets_hit_less (g.I.Source.view c.args.over.index.now) c.requires.opened.source c.in_ok-found.found.hits r.facets in
+    within_both c.find_by.ensures.reads c.show-shown.ensures.reads (omega (arith, all, same, read, less))
+
+-- ---- by the hits of the corpus
+pub returns-in_err-found-clause-sharp : goal.returns-in_err-found-clause-sharp
+returns-in_err-found-clause-sharp g c b is stands good =
+    let v = g.I.Source.view c.args.over.index.now in
+    let k = corpus_in (v.stock b) in
+    let r = asked c.args.over.request.now in
+    let plan = is_note_plan (seen v) r.query c.requires.limits.query c.args.answers.now c.in_ok-keys.keys c.in_ok-keys.ensures.ok c.look-plan.result
+    c.look-plan.ensures in
+    let same = ap (sharp_by (division v.index) k r.query) plan in
+    within_more (c.find_by.ensures.sharp b is stands good.kept) (omega (arith, same))
+
+pub returns-in_err-reply-clause-sharp : goal.returns-in_err-reply-clause-sharp
+returns-in_err-reply-clause-sharp g c b is stands good =
+    let v = g.I.Source.view c.args.over.index.now in
+    let k = corpus_in (v.stock b) in
+    let r = asked c.args.over.request.now in
+    let plan = is_note_plan (seen v) r.query c.requires.limits.query c.args.answers.now c.in_ok-keys.keys c.in_ok-keys.ensures.ok c.look-plan.result
+    c.look-plan.ensures in
+    let same = ap (sharp_by (division v.index) k r.query) plan in
+    let told = err_due r c.from_residual-in_err-reply.result c.from_residual-in_err-reply.ensures.0 in
+    let read = ap (titles_read r) c.in_err-reply.was in
+    let found = c.in_ok-found.ensures.told b is stands good.held good.kept in
+    let facets = ap (λ (h : Base). hit_of_facets (division v.index) h r.facets) found.table.found.base in
+    within_both (c.find_by.ensures.sharp b is stands good.kept) c.show-shown.ensures.reads (omega (arith, same, told, read, facets))
+
+pub returns-clause-sharp : goal.returns-clause-sharp
+returns-clause-sharp g c b is stands good =
+    let v = g.I.Source.view c.args.over.index.now in
+    let k = corpus_in (v.stock b) in
+    let r = asked c.args.over.request.now in
+    let plan = is_note_plan (seen v) r.query c.requires.limits.query c.args.answers.now c.in_ok-keys.keys c.in_ok-keys.ensures.ok c.look-plan.result
+    c.look-plan.ensures in
+    let same = ap (sharp_by (division v.index) k r.query) plan in
+    let read = ap (titles_read r) c.in_ok-reply.was in
+    let found = c.in_ok-found.ensures.told b is stands good.held good.kept in
+    let facets = ap (λ (h : Base). hit_of_facets (division v.index) h r.facets) found.table.found.base in
+    within_both (c.find_by.ensures.sharp b is stands good.kept) c.show-shown.ensures.reads (omega (arith, same, read, facets))

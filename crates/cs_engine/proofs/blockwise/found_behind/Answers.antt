@@ -1,4 +1,4 @@
-use Rattle.std.proofs.Common.{◌≡◌, ◌<◌, ◌≤◌, ◌*◌, ◌-◌, ◌++◌, [], sym, ◌∙◌, ap, subst, length, map, get_or, arith}
+use Rattle.std.proofs.Common.{◌≡◌, ◌+◌, ◌<◌, ◌≤◌, ◌*◌, ◌-◌, ◌++◌, [], sym, ◌∙◌, ap, subst, length, map, get_or, arith}
 use Rattle.std.specs.Prelude.{All, filter}
 use Rattle.std.proofs.lemmas.List.Elements.{All-weaker}
 use Rattle.cs_base.specs.declared.content.doc.Base.TheVariants as base
@@ -12,12 +12,14 @@ use Rattle.cs_engine.specs.Counting.{counted_rows}
 use Rattle.cs_engine.specs.Loose.{HasBestScores, hits_in}
 use Rattle.cs_engine.specs.IndexReading.{IsWithin, run_of}
 use Rattle.cs_engine.specs.Packing.{doc_of_key, post_of_key, word_of_key}
+use Rattle.cs_engine.specs.Skipping.{hit_blocks, may_hit}
 use Rattle.cs_engine.specs.Steps.{IsBaseOf}
 use Rattle.cs_engine.proofs.PackingLemmas.{as_they_come, held_known, keys_among, keys_between}
 use Rattle.cs_engine.proofs.OverSources.{blocks_counted, chosen_countable, chosen_table, run_countable}
 use Rattle.cs_engine.proofs.PartSteps.{base_in}
 use Rattle.cs_engine.proofs.BehindLemmas.{best_found, best_more, rows_are, scored_are}
-use Rattle.cs_engine.proofs.WalkLemmas.{block_fails, fails_behind, hands_on, nothing_read, rest_ends, rest_stops, walk_goes_on}
+use Rattle.cs_engine.proofs.SkippingLemmas.{hits_begin, hits_end, hits_go_on, hits_skip, hits_stop, next_block, nothing_more, read_where, sieve_of, skipped, two_runs}
+use Rattle.cs_engine.proofs.WalkLemmas.{block_fails, fails_behind, hands_on}
 use Rattle.cs_engine.proofs.blockwise.found_behind.Goals as goal
 
 -- ---- what was gathered
@@ -51,7 +53,7 @@ loop-k-init g c =
     let listed = c.args.listed.now in
     let upto : from.next ≤ length v.index.heads = (let u = had.upto in let w = had.met.within in omega (arith, u, w)) in
     record {
-      walk = record { store = nothing_read; later = omega arith; reads = omega arith };
+      walk = hits_begin (hit_blocks c.args.hits.now v.index.heads from.next from.next);
       low = c.count_keys.ensures.low ∙ c.in_ok-counts.ensures.low;
       high = c.count_keys.ensures.high ∙ c.in_ok-counts.ensures.high;
       told = λ b is stands.
@@ -66,6 +68,44 @@ loop-k-init g c =
           ∙ h.run b is stands in
           subst (λ rows. HasBestScores rows c.raise_keys.new.best.items) same (c.raise_keys.ensures.best [] c.in_ok-best.ensures.none);
       len = c.raise_keys.ensures.len ∙ c.in_ok-best.ensures.long ∙ c.docs.ensures;
+    }
+
+-- ---- a block that no hit reaches
+pub head-requires : goal.head-requires
+head-requires g c = (let w = c.requires.gathered.met.within in omega (arith, w, c.loop-k-test.true))
+
+pub may_hit-requires : goal.may_hit-requires
+may_hit-requires g c = base_in (g.I.Source.view c.args.index.now).docs (MAX_ROW_SCORE * (MAX_PARTS - 1)) c.args.hits.now (omega arith) c.requires.base
+
+pub loop-k-preserved-then-not-may_hit : goal.loop-k-preserved-then-not-may_hit
+loop-k-preserved-then-not-may_hit g c =
+    let v = (g.I.Source.view c.args.index.now) in
+    let hits = c.args.hits.now in
+    let from = c.args.gathered.now in
+    let had = c.requires.gathered in
+    let lo = c.args.words.0 in
+    let hi = c.args.words.1 in
+    let listed = c.args.listed.now in
+    let inv = c.loop-k.invariant in
+    let below : c.loop-k.k < length v.index.heads = (let w = had.met.within in omega (arith, w, c.loop-k-test.true)) in
+    let onward : from.first ≤ c.loop-k.k = (let o = had.onward in omega (arith, o, c.loop-k.auto.k)) in
+    let none = ap (may_hit hits) (sym c.head.ensures) ∙ sym c.may_hit.ensures ∙ c.if-not-may_hit.true in
+    let on = next_block hits v.index.heads from.next c.loop-k.k c.loop-k.auto.k below in
+    let is_sieve = sieve_of (g.S.Store.bytes c.args.store.now) v (MAX_ROW_SCORE * (MAX_PARTS - 1)) hits listed c.requires.opened (omega arith) c.requires.base
+    c.requires.listed in
+    record {
+      walk = hits_skip inv.walk (omega (arith, on));
+      low = inv.low;
+      high = inv.high;
+      told = λ b is stands.
+          blocks_counted b v stands c.requires.opened.source from.first c.loop-k.k lo hi listed c.loop-k.counts c.loop-k.counts onward below inv.low inv.high
+          (λ seen few has. nothing_more (λ rows. HasCounted rows c.loop-k.counts) seen _
+          (skipped _ v hits listed is_sieve b stands c.loop-k.k c.loop-k.counts.low c.loop-k.counts.high below none) has) (inv.told b is stands);
+      scored = λ b is stands.
+          best_more b v stands c.requires.opened.source lo hi listed from.first c.loop-k.k c.loop-k.best.items c.loop-k.best.items onward below
+          (λ seen has. nothing_more (λ rows. HasBestScores rows c.loop-k.best.items) seen _
+          (skipped _ v hits listed is_sieve b stands c.loop-k.k lo hi below none) has) (inv.scored b is stands);
+      len = inv.len;
     }
 
 -- ---- the rest
@@ -85,7 +125,16 @@ pub raise_rows-requires-clause-long : goal.raise_rows-requires-clause-long
 raise_rows-requires-clause-long g c = c.requires.listed.long ∙ c.requires.opened.source.long ∙ sym c.loop-k.invariant.len
 
 pub returns-in_err-fetch_scored-clause-reads : goal.returns-in_err-fetch_scored-clause-reads
-returns-in_err-fetch_scored-clause-reads g c = rest_stops c.loop-k.invariant.walk c.loop-k-test.true c.fetch_scored.ensures.reads
+returns-in_err-fetch_scored-clause-reads g c =
+    let v = g.I.Source.view c.args.index.now in
+    let hits = c.args.hits.now in
+    let from = c.args.gathered.now in
+    let within = c.requires.gathered.met.within in
+    let below : c.loop-k.k < length v.index.heads = omega (arith, within, c.loop-k-test.true) in
+    let one = read_where hits v.index.heads c.loop-k.k (ap (may_hit hits) (sym c.head.ensures) ∙ sym c.may_hit.ensures ∙ c.if-not-may_hit.false) in
+    let on = next_block hits v.index.heads from.next c.loop-k.k c.loop-k.auto.k below in
+    let all = two_runs hits v.index.heads from.next (c.loop-k.k + 1) from.last (omega (arith, c.loop-k.auto.k)) (omega (arith, c.loop-k-test.true)) within in
+    hits_stop c.loop-k.invariant.walk c.fetch_scored.ensures.reads (omega (arith, all, on, one))
 
 pub returns-in_err-fetch_scored-clause-store : goal.returns-in_err-fetch_scored-clause-store
 returns-in_err-fetch_scored-clause-store g c =
@@ -105,8 +154,11 @@ loop-k-preserved g c =
     let read = c.in_ok-fetch_scored.ensures in
     let below : c.loop-k.k < length v.index.heads = (let w = had.met.within in omega (arith, w, c.loop-k-test.true)) in
     let onward : from.first ≤ c.loop-k.k = (let o = had.onward in omega (arith, o, c.loop-k.auto.k)) in
+    let hits = c.args.hits.now in
+    let one = read_where hits v.index.heads c.loop-k.k (ap (may_hit hits) (sym c.head.ensures) ∙ sym c.may_hit.ensures ∙ c.if-not-may_hit.false) in
+    let on = next_block hits v.index.heads from.next c.loop-k.k c.loop-k.auto.k below in
     record {
-      walk = walk_goes_on inv.walk read.store read.reads;
+      walk = hits_go_on inv.walk read.store read.reads (on ∙ ap (λ n. hit_blocks hits v.index.heads from.next c.loop-k.k + n) one);
       low = c.add_rows.ensures.low ∙ inv.low;
       high = c.add_rows.ensures.high ∙ inv.high;
       told = λ b is stands.
@@ -128,10 +180,24 @@ scored_in-requires-clause-base g c = base_in (g.I.Source.view c.args.index.now).
     c.requires.base
 
 pub returns-in_err-scored-clause-reads : goal.returns-in_err-scored-clause-reads
-returns-in_err-scored-clause-reads g c = rest_ends c.loop-k.invariant.walk c.loop-k.auto.k-end c.requires.gathered.upto
+returns-in_err-scored-clause-reads g c =
+    let v = g.I.Source.view c.args.index.now in
+    let from = c.args.gathered.now in
+    let had = c.requires.gathered in
+    let up = had.upto in
+    let within = had.met.within in
+    let all = two_runs c.args.hits.now v.index.heads from.next c.loop-k.k from.last c.loop-k.auto.k (omega (arith, c.loop-k.auto.k-end, up)) within in
+    hits_end c.loop-k.invariant.walk (omega (arith, all))
 
 pub returns-clause-reads : goal.returns-clause-reads
-returns-clause-reads g c = rest_ends c.loop-k.invariant.walk c.loop-k.auto.k-end c.requires.gathered.upto
+returns-clause-reads g c =
+    let v = g.I.Source.view c.args.index.now in
+    let from = c.args.gathered.now in
+    let had = c.requires.gathered in
+    let up = had.upto in
+    let within = had.met.within in
+    let all = two_runs c.args.hits.now v.index.heads from.next c.loop-k.k from.last c.loop-k.auto.k (omega (arith, c.loop-k.auto.k-end, up)) within in
+    hits_end c.loop-k.invariant.walk (omega (arith, all))
 
 -- ---- the rows in memory
 pub count_chosen-requires-clause-known : goal.count_chosen-requires-clause-known

@@ -3,12 +3,14 @@ use Rattle.cs_tables.specs.WordCounts.{HasCounted, is_chosen}
 use Rattle.cs_engine.specs.Counting.{counted_rows}
 use Rattle.cs_engine.specs.Loose.{HasBestScores}
 use Rattle.cs_engine.specs.IndexReading.{WhereStood, run_of}
-use Rattle.cs_engine.proofs.WalkLemmas.{Walk}
+use Rattle.cs_engine.specs.Skipping.{hit_blocks}
+use Rattle.cs_engine.proofs.SkippingLemmas.{HitWalk}
 use Rattle.cs_engine.proofs.blockwise.found_behind.Given as goal
 
 abbrev pub invariant-loop-k : goal.invariant-loop-k
 invariant-loop-k g l = record {
-  walk : Walk g.S.Store.bytes g.S.Store.lent g.S.Store.faults g.S.Store.reads (g.I.Source.view l.index).index l.fn.store l.store l.gathered.next l.k;
+  walk : HitWalk g.S.Store.bytes g.S.Store.lent g.S.Store.faults g.S.Store.reads (g.I.Source.view l.index).index l.fn.store l.store
+      (hit_blocks l.hits (g.I.Source.view l.index).index.heads l.gathered.next l.k);
   low : l.counts.low ≡ l.words.0;
   high : l.counts.high ≡ l.words.1;
   told : WhereStood (g.S.Store.bytes l.fn.store) (g.I.Source.view l.index).index

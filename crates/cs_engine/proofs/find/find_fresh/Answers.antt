@@ -1,12 +1,15 @@
 use Rattle.std.proofs.Common.{◌≡◌, ◌-◌, ◌*◌, ◌∙◌, List, length, length-take, take, ap, subst, arith}
 use Rattle.std.proofs.lemmas.Grind.{common_steps}
 use Rattle.cs_base.specs.declared.content.query.Part.{Part}
+use Rattle.cs_base.specs.declared.content.query.Query.{out-Query}
 use Rattle.cs_base.specs.declared.content.scores.TheConstants.{MAX_ROW_SCORE}
+use Rattle.cs_model.specs.Keys.{last_of}
 use Rattle.cs_model_kept.specs.KeptListLaws.{before_last}
 use Rattle.cs_engine.specs.Asking.{division}
 use Rattle.cs_engine.specs.Finding.{AsksAlone}
 use Rattle.cs_engine.specs.Sources.{seen}
 use Rattle.cs_engine.specs.Steps.{IsBaseOf}
+use Rattle.cs_engine.proofs.InsideLemmas.{last_hits_less}
 use Rattle.cs_engine.proofs.PlansLemmas.{all_met, first_parts, nothing_over, nothing_own}
 use Rattle.cs_engine.proofs.WalkLemmas.{within_both, within_more}
 use Rattle.cs_engine.proofs.WideLemmas.{alone_met}
@@ -56,9 +59,10 @@ returns-in_err-hits-clause-reads g c =
 
 pub returns-in_err-found-3-clause-reads : goal.returns-in_err-found-3-clause-reads
 returns-in_err-found-3-clause-reads g c =
-    let met = all_met (division (g.I.Source.view c.args.over.index.now).index) c.args.over.query.now c.as_slice-parts.result.now
-    c.as_slice-parts.ensures (grind (arith, common_steps)) in
-    within_both c.hits_of_parts.ensures.reads c.in_err-found-3.ensures.reads (omega (arith, met))
+    let v = g.I.Source.view c.args.over.index.now in
+    let met = all_met (division v.index) c.args.over.query.now c.as_slice-parts.result.now c.as_slice-parts.ensures (grind (arith, common_steps)) in
+    let less = last_hits_less v c.requires.over.opened.source c.in_ok-hits.hits (last_of (out-Query c.args.over.query.now).parts) in
+    within_both c.hits_of_parts.ensures.reads c.in_err-found-3.ensures.reads (omega (arith, met, less))
 
 pub find_last-requires-clause-base : goal.find_last-requires-clause-base
 find_last-requires-clause-base g c =
@@ -76,6 +80,7 @@ returns-clause-told g c b is stands held =
 
 pub returns-clause-reads : goal.returns-clause-reads
 returns-clause-reads g c =
-    let met = all_met (division (g.I.Source.view c.args.over.index.now).index) c.args.over.query.now c.as_slice-parts.result.now
-    c.as_slice-parts.ensures (grind (arith, common_steps)) in
-    within_both c.hits_of_parts.ensures.reads c.in_ok-found-3.ensures.reads (omega (arith, met))
+    let v = g.I.Source.view c.args.over.index.now in
+    let met = all_met (division v.index) c.args.over.query.now c.as_slice-parts.result.now c.as_slice-parts.ensures (grind (arith, common_steps)) in
+    let less = last_hits_less v c.requires.over.opened.source c.in_ok-hits.hits (last_of (out-Query c.args.over.query.now).parts) in
+    within_both c.hits_of_parts.ensures.reads c.in_ok-found-3.ensures.reads (omega (arith, met, less))

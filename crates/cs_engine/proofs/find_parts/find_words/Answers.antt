@@ -1,8 +1,10 @@
-use Rattle.std.proofs.Common.{List, ◌≤◌, ◌∙◌, ◌++◌, length, map, ap, subst, sym, arith, length-append}
+use Rattle.std.proofs.Common.{List, ◌*◌, ◌-◌, ◌≤◌, ◌∙◌, ◌++◌, length, map, ap, subst, sym, arith, length-append}
 use Rattle.std.specs.Prelude.{All, filter}
 use Rattle.std.proofs.lemmas.Bool.{ltb-false, ltb-true}
 use Rattle.std.proofs.lemmas.List.{length-map}
 use Rattle.cs_base.specs.declared.content.doc.Post.{Post}
+use Rattle.cs_base.specs.declared.content.query.Query.{out-Query}
+use Rattle.cs_base.specs.declared.content.scores.TheConstants.{MAX_ROW_SCORE}
 use Rattle.cs_base.specs.declared.content.scores.Weights.{Weights}
 use Rattle.cs_tables.specs.WordCounts.{is_chosen}
 use Rattle.cs_engine.specs.Packing.{IsPacked, key_of}
@@ -10,11 +12,21 @@ use Rattle.cs_engine.specs.IndexReading.{run_of}
 use Rattle.cs_engine.specs.Sources.{seen}
 use Rattle.cs_engine.proofs.CountingLemmas.{listed_in}
 use Rattle.cs_engine.proofs.LooseLemmas.{chosen_entry, entry_fits, is_large}
-use Rattle.cs_engine.proofs.RowsInRange.{met_count}
+use Rattle.cs_engine.proofs.SkippingLemmas.{few_hit, sieve_of, two_runs}
 use Rattle.cs_engine.proofs.WalkLemmas.{within_both}
 use Rattle.cs_engine.proofs.PackingLemmas.{all_in_room, chosen_are, held_known, held_packed, ordered_by, ordered_passed, ordered_told, ordered_within, run_longer}
 use Rattle.cs_engine.proofs.PackingLemmas.{with_held}
 use Rattle.cs_engine.proofs.find_parts.find_words.Goals as goal
+
+-- ---- what blocks are skipped by
+pub gather_keys-requires-clause-sieve : goal.gather_keys-requires-clause-sieve
+gather_keys-requires-clause-sieve g c =
+    let v = (g.I.Source.view c.args.over.index.now) in
+    let n = length (out-Query c.args.over.query.now).parts in
+    let few = c.requires.over.parts in
+    sieve_of (g.S.Store.bytes c.args.store.now) v (MAX_ROW_SCORE * (n - 1)) c.args.hits c.deref-marks.result.now c.requires.over.opened (omega (arith, few))
+    c.requires.asks.base
+    (listed_in c.args.hits c.in_ok-listed.listed.items c.deref-marks.result.now c.in_ok-listed.ensures c.deref-marks.ensures.value)
 
 -- ---- what is in memory
 pub many_chosen-requires : goal.many_chosen-requires
@@ -75,20 +87,18 @@ returns-in_err-hits-clause-reads g c =
     let v = (g.I.Source.view c.args.over.index.now) in
     let had = c.in_ok-gathered.ensures.gathered in
     let from = c.in_ok-gathered.gathered in
-    let many = met_count v.index.heads (v.before c.args.words.0) (v.before c.args.words.1) from.first from.last had.met in
-    let on = had.onward in
-    let up = had.upto in
-    within_both c.in_ok-gathered.ensures.read c.in_err-hits.ensures.reads (omega (arith, many, on, up))
+    let many = few_hit v c.args.hits c.args.words.0 c.args.words.1 from.first from.last had.met in
+    let runs = two_runs c.args.hits v.index.heads from.first from.next from.last had.onward had.upto had.met.within in
+    within_both c.in_ok-gathered.ensures.read c.in_err-hits.ensures.reads (omega (arith, many, runs))
 
 pub returns-then-are_more-clause-reads : goal.returns-then-are_more-clause-reads
 returns-then-are_more-clause-reads g c =
     let v = (g.I.Source.view c.args.over.index.now) in
     let had = c.in_ok-gathered.ensures.gathered in
     let from = c.in_ok-gathered.gathered in
-    let many = met_count v.index.heads (v.before c.args.words.0) (v.before c.args.words.1) from.first from.last had.met in
-    let on = had.onward in
-    let up = had.upto in
-    within_both c.in_ok-gathered.ensures.read c.in_ok-hits.ensures.reads (omega (arith, many, on, up))
+    let many = few_hit v c.args.hits c.args.words.0 c.args.words.1 from.first from.last had.met in
+    let runs = two_runs c.args.hits v.index.heads from.first from.next from.last had.onward had.upto had.met.within in
+    within_both c.in_ok-gathered.ensures.read c.in_ok-hits.ensures.reads (omega (arith, many, runs))
 
 -- ---- rows in order
 pub found_with-requires : goal.found_with-requires

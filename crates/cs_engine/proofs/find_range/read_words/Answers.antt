@@ -1,5 +1,7 @@
-use Rattle.std.proofs.Common.{arith}
-use Rattle.cs_engine.proofs.RowsInRange.{met_count}
+use Rattle.std.proofs.Common.{ap, arith}
+use Rattle.cs_base.specs.declared.content.doc.Base.TheVariants as base
+use Rattle.cs_engine.specs.Skipping.{hit_blocks}
+use Rattle.cs_engine.proofs.SkippingLemmas.{all_reach, few_hit}
 use Rattle.cs_engine.proofs.WalkLemmas.{within_more}
 use Rattle.cs_engine.proofs.find_range.read_words.Goals as goal
 
@@ -8,16 +10,20 @@ found_behind-requires-clause-gathered g c = c.nothing_gathered-none.ensures.gath
 
 pub returns-in_err-found-clause-reads : goal.returns-in_err-found-clause-reads
 returns-in_err-found-clause-reads g c =
+    let v = g.I.Source.view c.args.index.now in
     let none = c.nothing_gathered-none in
     let met = (none.ensures.gathered (g.S.Store.bytes c.args.store.now) c.deref.result.now).met in
-    let many = met_count (g.I.Source.view c.args.index.now).index.heads ((g.I.Source.view c.args.index.now).before c.args.words.0)
-    ((g.I.Source.view c.args.index.now).before c.args.words.1) none.result.first none.result.last met in
-    within_more c.found_behind.ensures.reads (omega (arith, many, none.ensures.none))
+    let few = few_hit v base.All c.args.words.0 c.args.words.1 none.result.first none.result.last met in
+    let all = all_reach v c.args.words.0 c.args.words.1 in
+    let same = ap (λ k. hit_blocks base.All v.index.heads k none.result.last) none.ensures.none in
+    within_more c.found_behind.ensures.reads (omega (arith, few, all, same))
 
 pub returns-clause-reads : goal.returns-clause-reads
 returns-clause-reads g c =
+    let v = g.I.Source.view c.args.index.now in
     let none = c.nothing_gathered-none in
     let met = (none.ensures.gathered (g.S.Store.bytes c.args.store.now) c.deref.result.now).met in
-    let many = met_count (g.I.Source.view c.args.index.now).index.heads ((g.I.Source.view c.args.index.now).before c.args.words.0)
-    ((g.I.Source.view c.args.index.now).before c.args.words.1) none.result.first none.result.last met in
-    within_more c.found_behind.ensures.reads (omega (arith, many, none.ensures.none))
+    let few = few_hit v base.All c.args.words.0 c.args.words.1 none.result.first none.result.last met in
+    let all = all_reach v c.args.words.0 c.args.words.1 in
+    let same = ap (λ k. hit_blocks base.All v.index.heads k none.result.last) none.ensures.none in
+    within_more c.found_behind.ensures.reads (omega (arith, few, all, same))

@@ -8,12 +8,18 @@ use Rattle.cs_engine.specs.Loose.{HasBestScores, hits_in}
 use Rattle.cs_engine.specs.Steps.{IsBaseOf}
 use Rattle.cs_engine.specs.Stocked.{is_between}
 use Rattle.cs_rank.specs.DocScores.{with_base}
+use Rattle.cs_engine.proofs.CountingLemmas.{listed_in}
 use Rattle.cs_engine.proofs.PartSteps.{base_in}
+use Rattle.cs_engine.proofs.SkippingLemmas.{sieve_of}
 use Rattle.cs_engine.proofs.BehindLemmas.{scored_are}
 use Rattle.cs_engine.proofs.scored.hits_by_words.Goals as goal
 
-pub best_in_blocks-requires-clause-listed : goal.best_in_blocks-requires-clause-listed
-best_in_blocks-requires-clause-listed g c = ap length c.deref.ensures.value ∙ c.in_ok-listed.ensures.long ∙ c.requires.opened.source.long
+pub best_in_blocks-requires-clause-sieve : goal.best_in_blocks-requires-clause-sieve
+best_in_blocks-requires-clause-sieve g c =
+    let v = g.I.Source.view c.args.index.now in
+    let hits = c.args.hits.now in
+    sieve_of (g.S.Store.bytes c.args.store.now) v (MAX_ROW_SCORE * MAX_PARTS) hits c.deref.result.now c.requires.opened (omega arith) c.requires.base
+    (listed_in hits c.in_ok-listed.listed.items c.deref.result.now c.in_ok-listed.ensures c.deref.ensures.value)
 
 pub scored_in-requires-clause-base : goal.scored_in-requires-clause-base
 scored_in-requires-clause-base g c = base_in (g.I.Source.view c.args.index.now).docs (MAX_ROW_SCORE * MAX_PARTS) c.args.hits.now (omega arith) c.requires.base

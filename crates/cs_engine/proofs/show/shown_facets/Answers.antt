@@ -1,9 +1,21 @@
 use Rattle.std.proofs.Common.{◌∙◌, ◌++◌, List, map, ap, refl, sym, arith}
+use Rattle.cs_base.specs.declared.content.doc.Base.{Base}
 use Rattle.cs_model.specs.Replies.{FacetShown}
 use Rattle.cs_engine.specs.Stocked.{facet_at}
+use Rattle.cs_query.specs.RequestView.{asked}
+use Rattle.cs_engine.specs.Skipping.{bare_facet}
 use Rattle.cs_engine.proofs.AnsweringLemmas.{shown_more}
+use Rattle.cs_engine.proofs.NoHitLemmas.{bare_is, lists_no}
 use Rattle.cs_engine.proofs.WalkLemmas.{list_begins, list_goes_on}
 use Rattle.cs_engine.proofs.show.shown_facets.Goals as goal
+
+pub returns-then-lists_none-clause-told : goal.returns-then-lists_none-clause-told
+returns-then-lists_none-clause-told g c b is stands held =
+    let s = (g.I.Source.view c.args.over.index.now).stock b in
+    let cut = c.args.over.request.now.completions in
+    let names = (asked c.args.over.request.now).facets in
+    let none = lists_no c.args.base.now (sym c.lists_none.ensures ∙ c.if-lists_none.true) in
+    c.in_ok-bare.ensures ∙ ap (map bare_facet) c.as_slice-then-lists_none.ensures ∙ bare_is s cut names ∙ ap (λ (x : Base). map (facet_at s x cut) names) (sym none)
 
 pub loop-name-init : goal.loop-name-init
 loop-name-init g c = record {

@@ -1,11 +1,10 @@
-use Rattle.std.proofs.Common.{◌≡◌, ◌++◌, [], map, drop}
+use Rattle.std.proofs.Common.{◌≡◌, ◌++◌, map, drop}
 use Rattle.std.specs.Prelude.{All}
-use Rattle.cs_model.specs.Collection.{named}
-use Rattle.cs_model_kept.specs.Due.{met_of_facets, met_prefix}
 use Rattle.cs_query.specs.RequestView.{asked}
 use Rattle.cs_engine.specs.Asking.{division}
 use Rattle.cs_engine.specs.HeldRanges.{AreHeldOver, FitsRange}
 use Rattle.cs_engine.specs.IndexReading.{WhereStood}
+use Rattle.cs_engine.specs.Skipping.{hit_of_facet, hit_of_facets}
 use Rattle.cs_engine.specs.Sources.{seen}
 use Rattle.cs_engine.specs.Stocked.{facet_at}
 use Rattle.cs_engine.proofs.WalkLemmas.{ListWalk}
@@ -14,7 +13,7 @@ use Rattle.cs_engine.proofs.show.shown_facets.Given as goal
 abbrev pub invariant-loop-name : goal.invariant-loop-name
 invariant-loop-name g l = let i = g.I.Source.view l.fn.over.index.now in let v = division i.index in record {
   walk : ListWalk g.S.Store.bytes g.S.Store.lent g.S.Store.faults g.S.Store.reads
-      i.index (λ n. met_prefix v (named n [])) l.name-items (met_of_facets v (asked l.fn.over.request.now).facets) l.fn.store l.store l.name-index;
+      i.index (hit_of_facet v l.base) l.name-items (hit_of_facets v l.base (asked l.fn.over.request.now).facets) l.fn.store l.store l.name-index;
   held : All (FitsRange (seen i)) l.held;
   good : WhereStood (g.S.Store.bytes l.fn.store) i.index (λ b. AreHeldOver (i.stock b) l.fn.held → AreHeldOver (i.stock b) l.held);
   told : WhereStood (g.S.Store.bytes l.fn.store) i.index (λ b. AreHeldOver (i.stock b) l.fn.held

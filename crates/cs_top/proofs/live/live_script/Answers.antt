@@ -1,5 +1,5 @@
 use Rattle.std.proofs.Common.{◌≡◌, ◌∙◌, ℕ, List, inl, inr, refl, rules, sym, subst}
-use Rattle.std.specs.Prelude.{Some, Ok, IfOk, IfErr}
+use Rattle.std.specs.Prelude.{Some, Ok}
 use Rattle.cs_base.specs.outside.Outside.{Held}
 use Rattle.cs_model.specs.Outputs.{script_lines}
 use Rattle.cs_model_index.specs.Sections.{file_corpus}

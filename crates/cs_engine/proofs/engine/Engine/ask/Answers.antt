@@ -1,8 +1,16 @@
 use Rattle.std.proofs.Common.{ap, subst, sym}
 use Rattle.cs_file.specs.Indexes.{HasAllBlocks, StandsFor}
-use Rattle.cs_engine.specs.Keeping.{AreGood, EngineView, IsAfter, KeepsAnswers, engine_with}
+use Rattle.cs_engine.specs.Keeping.{AreGood, AreGoodFor, EngineView, IsAfter, KeepsAnswers, engine_with, note_plan}
 use Rattle.cs_engine.specs.declared.engine.Engine.{Engine}
+use Rattle.cs_base.specs.outside.Causes.{ReadsWithin}
+use Rattle.cs_model_index.specs.Sections.{file_corpus}
+use Rattle.cs_model_kept.specs.Sharp.{sharp}
+use Rattle.cs_query.specs.RequestView.{asked}
+use Rattle.cs_engine.specs.Asking.{division, titles_asked}
+use Rattle.cs_engine.specs.IndexReading.{stock_of}
 use Rattle.cs_engine.proofs.OpenedLemmas.{answers_opened}
+use Rattle.cs_engine.proofs.SharpReads.{reads_sharp}
+use Rattle.cs_engine.proofs.StockLemmas.{stock_corpus}
 use Rattle.cs_engine.proofs.engine.Engine.ask.Goals as goal
 
 pub invariant_of-self : goal.invariant_of-self
@@ -43,3 +51,17 @@ pub returns-clause-keeps : goal.returns-clause-keeps
 returns-clause-keeps g c =
     subst (λ (e : EngineView). KeepsAnswers e.index c.args.request.now.query e.answers c.ask_over.result c.ask_over.new.answers) c.self.view_is
     c.ask_over.ensures.keeps
+
+pub returns-clause-sharp : goal.returns-clause-sharp
+returns-clause-sharp g c b told_is stands good =
+    let i = c.self.inside.index in
+    let is = c.index_is_source.ensures.index in
+    let q = c.args.request.now.query in
+    let r = asked c.args.request.now in
+    let titles = titles_asked r c.ask_over.result in
+    let at = subst (StandsFor b) (sym (ap (λ (e : Engine). e.index) c.self.view_is)) stands in
+    let own = subst (AreGood b) (sym c.self.view_is) good in
+    let good_for = subst (λ k. AreGoodFor k (stock_of b) (engine_with i c.self.inside.answers c.self.inside.held)) (sym (stock_corpus b i at is)) own in
+    subst (λ (e : EngineView). ReadsWithin (sharp (division e.index) (file_corpus b) r (note_plan q e.answers) titles) (g.S.Store.reads c.args.store.now)
+    (g.S.Store.reads c.ask_over.new.store)) c.self.view_is
+    (reads_sharp b i at is r (note_plan q c.self.inside.answers) titles (c.ask_over.ensures.sharp b told_is at good_for))

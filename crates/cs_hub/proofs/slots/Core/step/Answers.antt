@@ -1,7 +1,8 @@
 use Rattle.std.proofs.Common.{ap, refl, rules, ◌∙◌}
 use Rattle.cs_model_index.specs.Sections.{file_corpus}
+use Rattle.cs_hub.specs.Asked.{standing}
 use Rattle.cs_hub.specs.DueReads.{bytes_to_answer, goes_on, requests_on}
-use Rattle.cs_hub.proofs.AskedLemmas.{standing, stands_so, within_for}
+use Rattle.cs_hub.proofs.AskedLemmas.{stands_so, within_for}
 use Rattle.cs_hub.proofs.FollowLemmas.{good_after, over_same, right_same}
 use Rattle.cs_hub.proofs.slots.Core.step.Goals as goal
 

@@ -1,4 +1,4 @@
-use Rattle.std.proofs.Common.{◌≢◌, ℕ, ap, inl, refl, sym, subst}
+use Rattle.std.proofs.Common.{◌≢◌, ap, inl, refl, sym, subst}
 use Rattle.cs_base.specs.content.Bytes.{line_feed}
 use Rattle.cs_model_index.specs.Sections.{file_corpus, image_of}
 use Rattle.cs_model_live.specs.LiveLines.{added_outcome, deleted_outcome, line_outcome}

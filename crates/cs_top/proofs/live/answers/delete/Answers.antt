@@ -17,7 +17,7 @@ pub returns-in-Ok-clause-tells : goal.returns-in-Ok-clause-tells
 returns-in-Ok-clause-tells c b s h =
     let digits = c.args.digits.now in
     let number = some_number (has_digits MAX_DOC_DIGITS digits) (number_of digits) c.in-Some.doc c.in-Some.ensures in
-    deleted_tells b c.args.live.now s h digits c.in-Some.doc number.0 number.1 (c.remove.ensures.documents b h.stands) c.changes.result c.remove.new.self
+    deleted_tells b c.args.live.now s h digits c.in-Some.doc number.0 number.1 ((c.is_in_state.ensures b s h).documents c.in-Some.doc) c.changes.result c.remove.new.self
     (removed_there c.remove.result c.in-Ok.field-0 (has_document c.args.live.now c.in-Some.doc) c.in-Ok.is c.remove.ensures.absent) c.changes.ensures.changes c.in-Ok.ensures.removed (c.in-Ok.ensures.behind b) (c.in-Ok.ensures.good b)
 
 pub returns-in-Ok-clause-texts : goal.returns-in-Ok-clause-texts
@@ -28,7 +28,7 @@ returns-in-Err-Absent-clause-tells c b s h =
     let digits = c.args.digits.now in
     let number = some_number (has_digits MAX_DOC_DIGITS digits) (number_of digits) c.in-Some.doc c.in-Some.ensures in
     stays_told b c.args.live.now s h _ (Line c.absent_line.result) c.remove.new.self
-    (absent_tells b c.args.live.now s h digits c.in-Some.doc number.0 number.1 (c.remove.ensures.documents b h.stands) (Line c.absent_line.result)
+    (absent_tells b c.args.live.now s h digits c.in-Some.doc number.0 number.1 ((c.is_in_state.ensures b s h).documents c.in-Some.doc) (Line c.absent_line.result)
     (removed_absent c.remove.result c.in-Err-Absent.field-0 (has_document c.args.live.now c.in-Some.doc) c.in-Err-Absent.is c.in-Err-Absent.field-0-is c.remove.ensures.absent) c.absent_line.ensures) c.in-Err-Absent.ensures.kept
 
 pub returns-in-Err-Memory-clause-tells : goal.returns-in-Err-Memory-clause-tells

@@ -1,17 +1,22 @@
-use Rattle.cs_query.specs.RequestView.{asked}
-use Rattle.cs_top.specs.HitForms.{form_by}
-use Rattle.cs_top.proofs.AnswerLemmas.{refusal_is, refusal_put, reply_is}
+use Rattle.cs_top.specs.Answering.{bytes_there}
+use Rattle.cs_top.proofs.OutcomeTextLemmas.{came_over, own_text_by, text_by}
 use Rattle.cs_top.proofs.script.answers.answer_params.Goals as goal
 
-pub returns-in-Ok-clause-text : goal.returns-in-Ok-clause-text
-returns-in-Ok-clause-text g c k over =
-    reply_is c.args.showing.now c.args.file.now k c.args.line.now (asked c.in-Ok.wanted) c.answer_request.result c.in-Ok.ensures.accepted c.in-Ok.ensures.ok (c.answer_request.ensures.text k over) c.answer_request.ensures.came.unread
+pub returns-clause-came : goal.returns-clause-came
+returns-clause-came g c =
+    let o = c.outcome_over_file-outcome in
+    came_over c.args.showing.now c.args.engine.now c.args.file.now (g.F.Files.held c.args.files.now) c.args.line.now o.result c.answer_by.result (g.F.Files.faults c.args.files.now) (g.F.Files.faults o.new.files) c.answer_by.ensures
+    o.ensures.right o.ensures.unread o.ensures.caused
 
-pub returns-in-Err-clause-text : goal.returns-in-Err-clause-text
-returns-in-Err-clause-text g c k over =
-    refusal_is c.args.showing.now c.args.file.now k c.args.line.now c.in-Err.fault c.refusal_line.result c.text_or_memory.result c.in-Err.ensures.err c.text_or_memory.ensures.text c.text_or_memory.ensures.memory
-    c.refusal_line.ensures.text c.refusal_line.ensures.refused
+pub returns-clause-text : goal.returns-clause-text
+returns-clause-text g c k over =
+    let o = c.outcome_over_file-outcome in
+    text_by c.args.showing.now c.args.line.now c.args.file.now k o.result c.answer_by.result c.answer_by.ensures o.ensures.outcome (o.ensures.right k over) o.ensures.unread
 
-pub returns-in-Err-clause-texts : goal.returns-in-Err-clause-texts
-returns-in-Err-clause-texts g c =
-    refusal_put (form_by c.args.showing.now) c.in-Err.fault c.refusal_line.result c.text_or_memory.result c.text_or_memory.ensures.text c.text_or_memory.ensures.memory c.refusal_line.ensures.text c.refusal_line.ensures.refused
+pub returns-clause-texts : goal.returns-clause-texts
+returns-clause-texts g c =
+    let o = c.outcome_over_file-outcome in
+    own_text_by c.args.showing.now c.args.line.now o.result c.answer_by.result c.answer_by.ensures o.ensures.outcome
+
+pub returns-clause-changed : goal.returns-clause-changed
+returns-clause-changed g c = c.answer_by.ensures.changed c.args.engine.now.index (bytes_there c.args.file.now (g.F.Files.held c.args.files.now)) c.outcome_over_file-outcome.ensures.changed

@@ -1,0 +1,13 @@
+pub mod NumberLemmas
+pub mod NowLemmas
+pub mod PresentTitles
+pub mod StateLemmas
+pub mod FetchedLemmas
+pub mod BeginningLemmas
+pub mod RemovedLemmas
+pub mod SettledLemmas
+pub mod AddedRows
+pub mod MetRows
+pub mod AddingLemmas
+pub mod ChangedLemmas
+pub mod LiveLemmas

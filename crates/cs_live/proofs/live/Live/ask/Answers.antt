@@ -1,0 +1,40 @@
+use Rattle.std.proofs.Common.{◌+◌, not, length, refl, sym, ap₂, subst, ◌∙◌, inl}
+use Rattle.std.specs.Prelude.{count_by}
+use Rattle.cs_file.specs.Indexes.{StandsFor}
+use Rattle.cs_live.specs.Lives.{AreGoodNow, IsBehind, IsLiveState, LiveView}
+use Rattle.cs_live.proofs.ChangedLemmas.{behind_settled}
+use Rattle.cs_live.proofs.LiveLemmas.{settled_good, settled_live, settled_same}
+use Rattle.cs_live.proofs.live.Live.ask.Goals as goal
+
+pub invariant_of-self-2 : goal.invariant_of-self-2
+invariant_of-self-2 g c =
+    let kept = c.self.invariant in
+    let settled = c.in_ok-bring_in.ensures.ok in
+    let none = c.in_ok-bring_in.ensures.none in
+    let l : LiveView = record { state = c.self.inside.state; rows = c.self.inside.rows.items; met = c.self.inside.met; changes = c.self.inside.changes; answers = c.self.inside.answers; held = c.self.inside.held } in
+    record {
+      live = subst (λ rs. IsLiveState c.bring_in.new.state rs c.self.inside.met) (sym none) (settled_live l kept c.bring_in.new.state settled);
+      counted = kept.counted ∙ ap₂ (λ ts ps. length ts + count_by not ps) (sym settled.added) (sym settled.present);
+      fresh = inl none;
+      answers = c.ask_state.ensures.kept;
+      held = c.ask_state.ensures.held;
+    }
+
+pub returns-clause-good : goal.returns-clause-good
+returns-clause-good g c b told_is stands good =
+    let l : LiveView = record { state = c.self.inside.state; rows = c.self.inside.rows.items; met = c.self.inside.met; changes = c.self.inside.changes; answers = c.self.inside.answers; held = c.self.inside.held } in
+    let settled = c.in_ok-bring_in.ensures.ok in
+    let here : StandsFor b l.state.index = subst (λ (v : LiveView). StandsFor b v.state.index) (sym c.self.view_is) stands in
+    let there : StandsFor b c.bring_in.new.state.index = subst (StandsFor b) (sym settled.index) here in
+    (c.ask_state.ensures.told b told_is there (settled_good l c.self.invariant c.bring_in.new.state settled b (subst (AreGoodNow b) (sym c.self.view_is) good))).good
+
+pub returns-clause-behind : goal.returns-clause-behind
+returns-clause-behind g c b cs stands behind =
+    let l : LiveView = record { state = c.self.inside.state; rows = c.self.inside.rows.items; met = c.self.inside.met; changes = c.self.inside.changes; answers = c.self.inside.answers; held = c.self.inside.held } in
+    let m : LiveView = record { state = c.bring_in.new.state; rows = c.bring_in.new.rows.items; met = c.self.inside.met; changes = c.self.inside.changes; answers = c.ask_state.new.answers; held = c.ask_state.new.held } in
+    let settled = c.in_ok-bring_in.ensures.ok in
+    let none = c.in_ok-bring_in.ensures.none in
+    let kept = c.self.invariant in
+    let here : StandsFor b l.state.index = subst (λ (v : LiveView). StandsFor b v.state.index) (sym c.self.view_is) stands in
+    behind_settled l kept.live.state b here cs (subst (IsBehind b cs) (sym c.self.view_is) behind) c.bring_in.new.state settled m refl none refl refl
+    (settled_same l kept c.bring_in.new.state settled b here m refl none)

@@ -1,0 +1,20 @@
+use Rattle.std.proofs.Common.{true≢false, sym, ◌∙◌, arith}
+use Rattle.cs_engine.proofs.AskedWords.{word_there, no_span}
+use Rattle.cs_engine.proofs.AtomsLemmas.{span_word}
+use Rattle.cs_live.proofs.numbers.own_span.Goals as goal
+
+pub returns-in-Some-clause-span : goal.returns-in-Some-clause-span
+returns-in-Some-clause-span c =
+    let at = c.in-Some.ensures.found in
+    record {
+      ordered = omega arith;
+      within = omega (arith, at.0);
+      holds = span_word c.args.words.now c.requires.ascending c.in-Some.n c.args.word.now at;
+    }
+
+pub returns-in-Some-clause-none : goal.returns-in-Some-clause-none
+returns-in-Some-clause-none c none =
+    absurd (true≢false (sym (word_there c.args.words.now c.in-Some.n c.args.word.now c.in-Some.ensures.found) ∙ none))
+
+pub returns-in-None-clause-span : goal.returns-in-None-clause-span
+returns-in-None-clause-span c = no_span c.args.words.now c.args.word.now c.in-None.ensures.absent

@@ -1,0 +1,158 @@
+//! Rows of added documents brought into a state: one vocabulary of all words, and one list of rows in memory.
+ghost use Rattle.std.specs.Prelude.{◌≡◌, ◌≤◌, ◌<◌, ◌++◌, [], length, map, slice_index_or, IfOk, OnErr, OnOk};
+ghost use Rattle.std.specs.List.{All};
+ghost use Rattle.cs_base.specs.declared.content.limits.TheConstants.{MAX_ROWS, MAX_WORDS};
+ghost use Rattle.cs_merge.specs.Vocabularies.{AreOfWordSize};
+ghost use Rattle.cs_model.specs.Corpus.{distinct_words};
+ghost use Rattle.cs_vocab.specs.Ranges.{AreNumbers};
+ghost use Rattle.cs_live.specs.Lives.{AreWaiting, IsSettled};
+ghost use Rattle.cs_live.specs.Settling.{AreMergedWith, AreSettled, HaveWordSize, row_posts, words_met};
+ghost use Rattle.cs_live.specs.States.{IsState, renumbered};
+
+use crate::rows::renumbered;
+use crate::state::State;
+use cs_base::{Memory, Post, Row, Seq};
+use cs_merge::{Merging, merged};
+use cs_vocab::{Gathering, Numbered, Vocab};
+use std::alloc::Global;
+
+/// What a state has in place of its own, where rows were brought in.
+#[derive(Drop)]
+pub(crate) struct Settled {
+    /// The words of the state and of the rows.
+    pub(crate) words: Vocab,
+    /// The number of each word of the index among these.
+    pub(crate) shift: Vec<u32>,
+    /// The rows in memory, and those that were brought in behind them.
+    pub(crate) held: Vec<Post>,
+}
+
+/// Brings rows that wait into a state, so that none wait. Where memory runs out, nothing changes.
+pub(crate) fn bring_in(alloc: Global, state: &mut State, rows: &mut Vec<Row>) -> Result<(), Memory>
+    requires is { IsState state.old }
+    requires waiting { AreWaiting state.old rows.old.items }
+    requires few { length rows.old.items ≤ MAX_ROWS }
+    requires few_words { length (words_met state.old.words rows.old.items) ≤ MAX_WORDS }
+
+    ensures ok { OnOk result (IsSettled state.old rows.old.items state.new) }
+    ensures none { OnOk result (rows.new.items ≡ []) }
+    ensures state { OnErr result (state.new ≡ state.old) }
+    ensures rows { OnErr result (rows.new.items ≡ rows.old.items) }
+    ensures some { OnErr result (1 ≤ length rows.old.items) }
+{
+    if rows.is_empty() {
+        return Ok(());
+    }
+    state.take(alloc, rows)?;
+    *rows = Vec::new(alloc);
+    Ok(())
+}
+
+/// Words, numbers of the index's words and rows in memory, with rows brought in behind them.
+pub(crate) fn brought_in(
+    alloc: Global,
+    words: &Vocab,
+    shift: &[u32],
+    held: &[Post],
+    rows: &[Row],
+) -> Result<Settled, Memory>
+    requires sized { AreOfWordSize words.now }
+    requires row_sized { HaveWordSize rows.now }
+    requires few { length rows.now ≤ MAX_ROWS }
+    requires few_words { length (words_met words.now rows.now) ≤ MAX_ROWS }
+    requires shift { All (λ n. n < length words.now) shift.now }
+    requires held { All (λ p. p.word < length words.now) held.now }
+
+    ensures { IfOk result (AreSettled words.now shift.now held.now rows.now) }
+{
+    let Numbered {
+        words: own,
+        numbers,
+    } = numbered_rows(alloc, rows)?;
+    let Merging {
+        words: both,
+        first,
+        second,
+    } = merged(alloc, words, &own)?;
+    let shift = numbers_by(alloc, &first, shift)?;
+    let mut held = renumber(alloc, &first, held)?;
+    add_posts(&mut held, &second, numbers.as_slice(), rows)?;
+    let words = Vocab::from_words(Seq::from_vec(both));
+    Ok(Settled { words, shift, held })
+}
+
+/// Words, and those of rows, brought into one order.
+pub(crate) fn merged_with(alloc: Global, words: &Vocab, rows: &[Row]) -> Result<Merging, Memory>
+    requires sized { AreOfWordSize words.now }
+    requires row_sized { HaveWordSize rows.now }
+    requires few { length rows.now ≤ MAX_ROWS }
+
+    ensures { IfOk result (AreMergedWith words.now rows.now) }
+{
+    let Numbered { words: own, .. } = numbered_rows(alloc, rows)?;
+    let both = merged(alloc, words, &own)?;
+    Ok(both)
+}
+
+// The distinct words of rows, and the number of each row's word among them.
+fn numbered_rows(alloc: Global, rows: &[Row]) -> Result<Numbered, Memory>
+    requires few { length rows.now ≤ MAX_ROWS }
+
+    ensures words { IfOk result (λ n. n.words ≡ distinct_words rows.now) }
+    ensures numbers { IfOk result (λ n. AreNumbers n.words n.numbers (map (λ r. r.word) rows.now)) }
+{
+    let mut gathering = Gathering::with_capacity(alloc, rows.len())?;
+    for row in rows {
+        gathering.push(alloc, row.word.bytes())?;
+    }
+    Numbered::gathered(alloc, gathering)
+}
+
+// The number that stands at each of these.
+fn numbers_by(alloc: Global, first: &[u32], numbers: &[u32]) -> Result<Vec<u32>, Memory>
+    requires { All (λ n. n < length first.now) numbers.now }
+
+    ensures { IfOk result (λ v. v.items ≡ map (λ n. slice_index_or first.now n 0) numbers.now) }
+{
+    let mut moved = Vec::with_capacity(alloc, numbers.len())?;
+    for n in numbers {
+        moved.push(first[*n as usize])?;
+    }
+    Ok(moved)
+}
+
+// The rows with the numbers that their words have now.
+fn renumber(alloc: Global, first: &[u32], posts: &[Post]) -> Result<Vec<Post>, Memory>
+    requires { All (λ p. p.word < length first.now) posts.now }
+
+    ensures { IfOk result (λ v. v.items ≡ map (renumbered first.now) posts.now) }
+{
+    let mut moved = Vec::with_capacity(alloc, posts.len())?;
+    for post in posts {
+        moved.push(renumbered(first, *post))?;
+    }
+    Ok(moved)
+}
+
+// Adds rows whose words have these numbers among those that are brought in.
+fn add_posts(
+    held: &mut Vec<Post>,
+    second: &[u32],
+    numbers: &[u32],
+    rows: &[Row],
+) -> Result<(), Memory>
+    requires even { length numbers.now ≡ length rows.now }
+    requires below { All (λ n. n < length second.now) numbers.now }
+
+    ensures { OnOk result (held.new.items ≡ held.old.items ++ row_posts second.now numbers.now rows.now) }
+{
+    for i in 0..rows.len() {
+        held.push(Post {
+            doc: rows[i].doc,
+            word: second[numbers[i] as usize],
+            pos: rows[i].pos,
+            score: rows[i].score,
+        })?;
+    }
+    Ok(())
+}

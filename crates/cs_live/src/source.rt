@@ -1,0 +1,141 @@
+//! An opened index under changes, as a source.
+ghost use Rattle.std.specs.Prelude.{◌≡◌, ◌<◌, true, length, slice_index_or};
+ghost use Rattle.cs_engine.specs.{Blockwise.{AreMany}, IndexReading.{IsWordRange}, Skipping.{no_head}, Sources.{IsSource, seen, source_of as opened_source}};
+ghost use Rattle.cs_live.specs.States.{source_now};
+
+use crate::numbers::{old_words, own_span};
+use crate::rows::{fetch_now, fetch_scored_now};
+use crate::state::State;
+use crate::titles::title_now;
+use cs_base::{BlockHead, Memory, Post, Store, Text, Weights};
+use cs_engine::Source;
+use cs_file::{FetchFault, Fetched, Index, Sought};
+use std::alloc::Global;
+
+impl Source for State {
+    ghost use Rattle.cs_live.specs.States.{source_now};
+
+    ghost view = { source_now };
+
+    fn docs(&self) -> u32 {
+        self.present.len() as u32
+    }
+
+    fn weights(&self) -> Weights {
+        weights_of(&self.index)
+    }
+
+    fn list_all(&self, alloc: Global) -> Result<Vec<bool>, Memory> {
+        let all = Vec::from_slice(alloc, &self.present)?;
+        Ok(all)
+    }
+
+    fn has_doc(&self, doc: u32) -> bool {
+        self.present[doc as usize]
+    }
+
+    fn held(&self) -> &[Post] {
+        &self.held
+    }
+
+    fn range(&self, p: &[u8]) -> (u32, u32) {
+        self.words.range(p)
+    }
+
+    fn span_of_word(&self, word: &[u8]) -> (u32, u32) {
+        own_span(&self.words, word)
+    }
+
+    fn word(&self, n: u32) -> &[u8] {
+        self.words.word(n)
+    }
+
+    fn blocks(&self, words: (u32, u32)) -> (u32, u32) {
+        let (lo, hi) = old_words(&self.shift, words);
+        self.index.blocks(lo, hi)
+    }
+
+    fn head(&self, k: u32) -> &BlockHead {
+        head_of(&self.index, k)
+    }
+
+    fn are_many(&self, words: (u32, u32)) -> bool {
+        let old = old_words(&self.shift, words);
+        self.whole && are_many_old(&self.index, old)
+    }
+
+    fn fetch_sought<S: Store>(
+        &self,
+        alloc: Global,
+        store: &mut S,
+        k: u32,
+        words: (u32, u32),
+        listed: &[bool],
+        into: &mut Sought,
+    ) -> Result<(), FetchFault> {
+        fetch_now(
+            alloc,
+            &self.index,
+            &self.shift,
+            &self.present,
+            store,
+            k,
+            words,
+            listed,
+            into,
+        )
+    }
+
+    fn fetch_scored<S: Store>(
+        &self,
+        alloc: Global,
+        store: &mut S,
+        k: u32,
+        into: &mut Fetched,
+    ) -> Result<(), FetchFault> {
+        fetch_scored_now(
+            alloc,
+            &self.index,
+            &self.shift,
+            &self.present,
+            store,
+            k,
+            into,
+        )
+    }
+
+    fn title<S: Store>(&self, alloc: Global, store: &mut S, doc: u32) -> Result<Text, FetchFault> {
+        title_now(alloc, &self.index, &self.present, &self.added, store, doc)
+    }
+}
+
+/// A state is a source, whatever store its index was opened over.
+pub(crate) fn state_is_source(state: &State)
+    ensures { IsSource (source_now state.now) }
+{
+    // the type of a state says what it keeps where a field of it is read
+    let _ = &state.whole;
+}
+
+fn weights_of(index: &Index) -> Weights
+    ensures { result ≡ index.now.weights }
+{
+    index.weights
+}
+
+fn head_of(index: &Index, k: u32) -> &BlockHead
+    requires { k < length index.now.heads }
+
+    ensures { result.now ≡ slice_index_or index.now.heads k no_head }
+{
+    index.head(k)
+}
+
+// Whether the index has more rows of these of its words than an entry may have, as far as can be told without reading them.
+fn are_many_old(index: &Index, words: (u32, u32)) -> bool
+    requires { IsWordRange (seen (opened_source index.now)) words.0 words.1 }
+
+    ensures { result ≡ true → AreMany (opened_source index.now) words.0 words.1 }
+{
+    index.are_many(words)
+}
