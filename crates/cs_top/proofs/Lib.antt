@@ -5,7 +5,7 @@ pub mod ChangeLines
 pub mod CompleteLemmas
 pub mod CommandLineExamples
 pub mod LineTexts
-pub mod LiveLemmas
+pub mod LiveScripts
 pub mod LiveOverLemmas
 pub mod LiveStateLemmas
 pub mod LiveStepLemmas

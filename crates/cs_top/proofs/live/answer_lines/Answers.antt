@@ -18,7 +18,7 @@ use Rattle.cs_top.specs.PutTexts.{CutsLineOf, EndsOf, PutsTextsOf}
 use Rattle.cs_top.specs.ScriptEndings.{EndsAt, ScriptEndsBy, ShortTally}
 use Rattle.cs_top.specs.Views.{of_script, stop_ending}
 use Rattle.cs_top.proofs.AnsweredLemmas.{HasAnswered, lines_at}
-use Rattle.cs_top.proofs.LiveLemmas.{counts_none, live_ends_done, live_ends_here, live_goes_on, live_start, live_unread}
+use Rattle.cs_top.proofs.LiveScripts.{counts_none, live_ends_done, live_ends_here, live_goes_on, live_start, live_unread}
 use Rattle.cs_top.proofs.LiveTextsApart.{live_apart}
 use Rattle.cs_top.proofs.PutTextLemmas.{nothing_put_of, puts_cut_of, puts_more_of, puts_none_of}
 use Rattle.cs_top.proofs.TallyLemmas.{counts_more}

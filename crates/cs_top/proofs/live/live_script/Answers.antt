@@ -15,7 +15,7 @@ use Rattle.cs_top.specs.ScriptRuns.{CanBeOpened}
 use Rattle.cs_top.specs.Views.{of_script, stop_ending}
 use Rattle.cs_top.specs.declared.script.WhatCame.{WhatCame}
 use Rattle.cs_top.specs.declared.script.WhatCame.TheVariants.{Answered, Read, Changed}
-use Rattle.cs_top.proofs.LiveLemmas.{live_answered, live_changed, live_read, live_short}
+use Rattle.cs_top.proofs.LiveScripts.{live_answered, live_changed, live_read, live_short}
 use Rattle.cs_top.proofs.PutTextLemmas.{puts_some_of}
 use Rattle.cs_top.proofs.ScriptLemmas.{err_there, held_by, ok_there}
 use Rattle.cs_top.proofs.StopLemmas.{live_absent, live_damaged, live_first, live_second, live_unopened, short_of}
