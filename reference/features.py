@@ -16,7 +16,7 @@ ALL = (
     "merge",        # the command
     "live",         # the command
 )
-HERE = {"weights", "version 2", "upgrade", "import", "excerpts", "merge"}
+HERE = {"weights", "version 2", "upgrade", "import", "excerpts", "merge", "live"}
 
 named = os.environ.get("COMPLETE_HAS", ",".join(HERE))
 HAS = set(ALL) if named == "all" else set(filter(None, named.split(",")))

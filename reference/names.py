@@ -21,6 +21,7 @@ EXCUSED = {
     "excerpt": "the call of cs_more, and the text in cs_model_excerpts that it gives",
     "score": "the call of cs_rank for all documents, and in cs_model the score of one",
     "serve": "the call of cs_hub over a hub, and in cs_model_serving the responses that it sends",
+    "Answer": "what a head gets in cs_hub, and a line of a script in cs_top: neither crate names both",
     "CountsRows": "of a run of words in cs_build and of the marks of words in cs_tables: neither crate nor one above names both",
 }
 

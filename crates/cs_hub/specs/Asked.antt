@@ -90,7 +90,7 @@ pub record Standing : Type 0 where
   pub reads : ℕ
   pub faults : ℕ
 
--- the same, one after the other
+-- such an engine, by these
 abbrev pub standing : Option (List ℕ) → EngineView → ℕ → ℕ → Standing
 standing told e reads faults = record { told = told; engine = e; reads = reads; faults = faults }
 

@@ -1,4 +1,4 @@
-//! What answers requests, as the serving core meets it.
+//! What answers requests, as the serving core and scripts meet it.
 ghost use Rattle.std.specs.Prelude.{◌≡◌, ℕ, false, Result, IfOk};
 ghost use Rattle.cs_file.specs.CallAnswers.{is_changed, is_read};
 ghost use Rattle.cs_file.specs.declared.fault.FetchFault.{FetchFault as Fault};
@@ -14,7 +14,7 @@ use cs_query::{Reply, Request};
 use std::alloc::Global;
 
 /// What answers requests.
-pub(crate) trait Answerer {
+pub trait Answerer {
     /// It answers over this corpus.
     ghost answers: { Self → Corpus → Type 0 };
 

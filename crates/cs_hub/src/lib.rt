@@ -18,6 +18,7 @@ mod serving;
 mod slots;
 mod steps;
 
-pub use outcomes::{RequestOutcome, outcome_over};
+pub use answering::Answerer;
+pub use outcomes::{RequestOutcome, outcome_of, outcome_over};
 pub use serving::{ServeEnd, serve};
 pub use slots::Core;

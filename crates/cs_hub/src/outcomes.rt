@@ -63,11 +63,7 @@ pub fn outcome_over<S: Store>(
 }
 
 /// The same of whatever answers requests.
-pub(crate) fn outcome_of<A: Answerer>(
-    alloc: Global,
-    answerer: &mut A,
-    params: &[u8],
-) -> RequestOutcome
+pub fn outcome_of<A: Answerer>(alloc: Global, answerer: &mut A, params: &[u8]) -> RequestOutcome
     ensures comes { ComesOf A.leaves params.now (A.kept answerer.old) result (A.kept answerer.new) }
     ensures right { (k : Corpus) → A.answers answerer.old k → IsRightOutcome k params.now result }
     ensures caused { CausedReads (fails_read result) (A.faults answerer.old) (A.faults answerer.new) }

@@ -4,7 +4,7 @@ use Rattle.std.specs.Prelude.{Some, None, codes}
 use Rattle.cs_model.specs.Collection.{bad_facet, in_line, too_many_words}
 use Rattle.cs_model_sources.specs.SourceRefusals.{of_line, of_lines}
 use Rattle.cs_model_sources.specs.declared.flat.Why.TheVariants.{Header, Field}
-use Rattle.cs_top.specs.CommandLine.{command_of, build, ask, serve, trial, upgrade, merge, refused, absent, line_of}
+use Rattle.cs_top.specs.CommandLine.{command_of, build, ask, serve, trial, upgrade, merge, live, refused, absent, line_of}
 use Rattle.cs_top.specs.Import.{of_collection, of_csv, of_jsonl, refused_words}
 use Rattle.cs_top.specs.declared.words.Form.TheVariants as forms
 use Rattle.cs_top.specs.declared.words.HitForm.TheVariants as hits
@@ -28,6 +28,10 @@ words-form = refl
 -- two index files and a third name
 words-merge : command_of (codes "merge" ∷ codes "A" ∷ codes "B" ∷ codes "N" ∷ []) ≡ Some (merge (codes "A") (codes "B") (codes "N"))
 words-merge = refl
+
+-- documents are added to one and deleted from it while a script is answered
+words-live : command_of (codes "live" ∷ codes "I" ∷ codes "Q" ∷ []) ≡ Some (live (codes "I") (codes "Q"))
+words-live = refl
 
 -- one is upgraded
 words-upgrade : command_of (codes "upgrade" ∷ codes "I" ∷ codes "N" ∷ []) ≡ Some (upgrade (codes "I") (codes "N"))

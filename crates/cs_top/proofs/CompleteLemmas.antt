@@ -11,8 +11,9 @@ use Rattle.cs_model_index.specs.Images.{Image}
 use Rattle.cs_model_index.specs.Sections.{image_of}
 use Rattle.cs_top.specs.ScriptRuns.{AskStops, AskTold, CanAsk, CanReplay, ReplayCaused, ReplayScript, ReplayStops, ReplayTold}
 use Rattle.cs_top.specs.Build.{BuildStops, BuildTold, BuildWrites, CanBuild}
-use Rattle.cs_top.specs.CommandLine.{Command, build, ask, replay, serve, trial, upgrade, merge, Ending, done, usage, refused, damaged, absent, failed, no_memory, script_refused, changed, merge_refused, status, Caused, CausedBy}
+use Rattle.cs_top.specs.CommandLine.{Command, build, ask, replay, serve, trial, upgrade, merge, live, Ending, done, usage, refused, damaged, absent, failed, no_memory, script_refused, changed, merge_refused, status, Caused, CausedBy}
 use Rattle.cs_top.specs.Import.{IsAcceptedAs, IsRefusedAs, Refusal, of_collection, of_csv, of_jsonl}
+use Rattle.cs_top.specs.LiveRuns.{LiveScript, LiveTold}
 use Rattle.cs_top.specs.Merge.{CanMerge, MergeStops, MergeTold}
 use Rattle.cs_top.specs.Met.{Listened, Met, Wrote, held_bytes}
 use Rattle.cs_top.specs.CommandRuns.{Completes, Ran}
@@ -137,6 +138,22 @@ replay_told : (e : Ending) (h : Held) (i s : List ℕ) (before now : ℕ) (w : W
 replay_told e h i s before now w (inl a) can calm = unplayed e h i s can a.0 calm
 replay_told e h i s before now w (inr a) can calm = played _ e (script_lines (held_bytes h s)) before now w can.1 a.1 calm
 
+lived : (b : List ℕ) (e : Ending) (ls : List (ℕ × List ℕ)) (before now : ℕ) (w : Wrote) → IsReadable ls → LiveScript b e ls before now w → (e ≡ failed → ⊥) → IsWell e
+lived b done ls before now w can a calm = inl refl
+lived b (script_refused f) ls before now w can a calm = let e : Some f ≡ None = sym a.1.0 ∙ can in absurd cc
+lived b failed ls before now w can a calm = absurd (calm refl)
+lived b usage ls before now w can a calm = absurd a
+lived b (refused r) ls before now w can a calm = absurd a
+lived b (damaged rule at) ls before now w can a calm = absurd a
+lived b (absent n) ls before now w can a calm = absurd a
+lived b no_memory ls before now w can a calm = absurd a
+lived b changed ls before now w can a calm = absurd a
+lived b (merge_refused r) ls before now w can a calm = absurd a
+
+live_told : (e : Ending) (h : Held) (i s : List ℕ) (before now : ℕ) (w : Wrote) → LiveTold e h i s before now w → CanReplay h i s → (e ≡ failed → ⊥) → IsWell e
+live_told e h i s before now w (inl a) can calm = unplayed e h i s can a.0 calm
+live_told e h i s before now w (inr a) can calm = lived _ e (script_lines (held_bytes h s)) before now w can.1 a.1 calm
+
 no_failed_replay : (e : Ending) (fb fn ob on : ℕ) → ReplayCaused e fb fn ob on → (Rose fb fn → ⊥) → (Rose ob on → ⊥) → e ≡ failed → ⊥
 no_failed_replay e fb fn ob on cause files out is = elim (subst (λ x. ReplayCaused x fb fn ob on) is cause).0 [ inl r ↦ files r | inr r ↦ out r ]
 
@@ -244,3 +261,5 @@ completes e (Some (upgrade i n)) m r = λ h held able files out hub.
     upgraded e h i n m.held_now (r.told h held) able (no_failed_file e m.files_before m.files_now r.caused files)
 completes e (Some (merge a b n)) m r = λ h held able files out hub.
     merged e h a b n m.held_now (r.told h held) able (no_failed_file e m.files_before m.files_now r.caused files)
+completes e (Some (live i s)) m r = λ h held able files out hub.
+    live_told e h i s m.files_before m.files_now m.out (r.told h held) able (no_failed_replay e m.files_before m.files_now m.out.before m.out.now r.caused files out)

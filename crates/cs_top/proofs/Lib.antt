@@ -1,9 +1,15 @@
 pub mod AnswerLemmas
 pub mod AnsweredLemmas
 pub mod BuildLemmas
+pub mod ChangeLines
 pub mod CompleteLemmas
 pub mod CommandLineExamples
 pub mod LineTexts
+pub mod LiveScripts
+pub mod LiveOverLemmas
+pub mod LiveStateLemmas
+pub mod LiveStepLemmas
+pub mod LiveTextsApart
 pub mod MemoryText
 pub mod OutcomeTextLemmas
 pub mod OverLemmas

@@ -4,7 +4,9 @@ use Rattle.std.specs.Prelude.{Option, Some, None}
 use Rattle.std.specs.Str.Lines.{lines}
 use Rattle.cs_base.specs.declared.content.limits.TheConstants.{MAX_SCRIPT_LINE_BYTES}
 use Rattle.cs_model.specs.Outputs.{MayPut, line_fault, script_line_too_long}
+use Rattle.cs_model_live.specs.LiveStates.{LiveState}
 use Rattle.cs_top.specs.CommandLine.{Ending, done, usage, refused, damaged, absent, failed, no_memory, script_refused, changed, merge_refused}
+use Rattle.cs_top.specs.LiveSteps.{LivePasses, LiveReaches}
 use Rattle.cs_top.specs.Met.{Wrote}
 use Rattle.cs_top.specs.ScriptEndings.{StopsAt, IsFirstLine, EndsAt, Passes, Reaches}
 use Rattle.cs_top.specs.declared.lines.Place.{Place}
@@ -37,3 +39,10 @@ module _ (A : MayPut) (s l : List ℕ) (p : Place) (at : ℕ) (w : Wrote) (befor
   reaches_by q old new came (inl is) n h = (l, is, n, h)
   reaches_by q old new came (inr (long, more)) n (inl (none, same, plain, calm)) = absurd (long_some l long none)
   reaches_by q old new came (inr (long, more)) n (inr (some, read, put)) = absurd (unread q.number l long read)
+
+module _ (b : List ℕ) (s : LiveState) (x l : List ℕ) (p : Place) (before now : ℕ) where
+  pub live_reaches : (q : Place) (old new : Option (List ℕ)) (came : WhatCame) (e : LiveState) → IsFirstLine (drop p.at x) l (drop q.at x) → q.number ≡ p.number + 1 → LivePasses b s (q.number, l) old new came before now e
+      → LiveReaches b s x p q old new came before now e
+  live_reaches q old new came e (inl is) n h = (l, is, n, h)
+  live_reaches q old new came e (inr (long, more)) n (inl (none, same, plain, calm, stays)) = absurd (long_some l long none)
+  live_reaches q old new came e (inr (long, more)) n (inr (some, read, put)) = absurd (unread q.number l long read)

@@ -6,10 +6,13 @@
 --   whole_by, told_by                       a stop of an index file that is read whole, over any files and over those that tell
 --   merged_by                               a stop of images that are merged
 --   short_by                                a stop of a script
---   ask_absent, ask_refused, replay_absent, replay_damaged     so an `ask` and a `replay` end before their script
-use Rattle.std.proofs.Common.{◌≡◌, ◌⊎◌, ℕ, List, refl, sym, subst}
+--   live_first, live_second, live_unopened      a `live` ends before its script, over files that tell
+--   ask_absent, ask_refused, replay_absent, replay_damaged, live_absent, live_damaged     so an `ask`, a `replay` and a `live` end before their script
+use Rattle.std.proofs.Common.{◌≡◌, ◌⊎◌, ℕ, List, inl, inr, refl, sym, subst}
 use Rattle.std.specs.Prelude.{Option, Some, None, MatchOption, Result, Err, IfErr}
 use Rattle.std.specs.Option.{ForSome, option_map}
+use Rattle.std.specs.FinMap as map
+use Rattle.cs_base.specs.outside.Outside.{Held, IsHeld}
 use Rattle.std.proofs.lemmas.Option.{same_Some}
 use Rattle.cs_model.specs.Corpus.{refusal}
 use Rattle.cs_model_index.specs.BlockRules.{broken_at}
@@ -23,10 +26,12 @@ use Rattle.cs_model.specs.Outputs.{ScriptFault}
 use Rattle.cs_merge.specs.Merging.{merge_refusal_of}
 use Rattle.cs_top.specs.CommandLine.{Ending, absent, changed, damaged, failed, merge_refused, no_memory, refused, script_refused}
 use Rattle.cs_top.specs.Import.{IsRefusedAs, Refusal, form_of, of_collection, of_csv, of_jsonl}
-use Rattle.cs_top.specs.Met.{Wrote}
-use Rattle.cs_top.specs.PutTexts.{EndsBy}
-use Rattle.cs_top.specs.ScriptRuns.{AskEnds, ReplayEnds}
-use Rattle.cs_top.specs.Views.{IsAbsence, IsDamage, IsMergeCause, IsOfIndex, IsOfSource, IsOfWhole, IsSourceCause, IsStopCause, IsWholeCause, collection_ending, collection_refusal_of, fault_form, fault_seen, import_refusal_of, merge_ending, of_script, source_refusal_of, stop_ending}
+use Rattle.cs_top.specs.Met.{Wrote, held_bytes}
+use Rattle.cs_top.specs.LiveRuns.{LiveEnds, LiveTold}
+use Rattle.cs_top.specs.LiveTexts.{IsLiveText}
+use Rattle.cs_top.specs.PutTexts.{EndsBy, EndsOf, IsOwnText, OwnText}
+use Rattle.cs_top.specs.ScriptRuns.{AreHeld, AskEnds, ReplayEnds}
+use Rattle.cs_top.specs.Views.{IsAbsence, IsDamage, IsMergeCause, IsMissing, IsOfIndex, IsOfSource, IsOfWhole, IsSourceCause, IsStopCause, IsWholeCause, collection_ending, collection_refusal_of, fault_form, fault_seen, import_refusal_of, merge_ending, of_script, source_refusal_of, stop_ending}
 use Rattle.cs_top.specs.declared.ending.RunStop.{RunStop}
 use Rattle.cs_top.specs.declared.ending.RunStop.TheVariants as stops
 use Rattle.cs_top.specs.declared.lines.ScriptStop.{ScriptStop}
@@ -38,7 +43,7 @@ use Rattle.cs_top.specs.declared.words.Form.{Form}
 use Rattle.cs_top.specs.declared.words.Form.TheVariants as forms
 use Rattle.cs_top.specs.declared.words.HitForm.{HitForm}
 use Rattle.cs_top.specs.declared.words.HitForm.TheVariants.{Titled}
-use Rattle.cs_top.proofs.PutTextLemmas.{nothing_put}
+use Rattle.cs_top.proofs.PutTextLemmas.{nothing_put, nothing_put_of}
 
 -- a refusal that is made of another one has its form
 formed : {A : Type 0} (form : Form) (made : A → Refusal) → ((a : A) → form_of (made a) ≡ form) → (o : Option A) → ForSome (option_map made o) (λ r. form_of r ≡ form)
@@ -175,14 +180,18 @@ module _ (P : Ending → Type 0) where
   merged_by a b (stops.Script f) is why memory = absurd is
 
   -- of a result that is a script's stop
-  pub short_by : (form : HitForm) (w : Wrote) (r : Result WhatCame ScriptStop) (x : ScriptStop) (s : RunStop) → ((f : ScriptFault) → EndsBy form (script_refused f) w → P (script_refused f)) → (EndsBy form failed w → P failed)
-      → r ≡ Err x → IfErr r (λ y. EndsBy form (stop_ending (of_script y)) w) → s ≡ of_script x → P (stop_ending s)
-  short_by form w r x s line fault is ends from =
-      subst (λ y. P (stop_ending y)) (sym from) (script_by x (subst (λ z. IfErr z (λ y. EndsBy form (stop_ending (of_script y)) w)) is ends))
+  pub short_of : (own : OwnText) (w : Wrote) (r : Result WhatCame ScriptStop) (x : ScriptStop) (s : RunStop) → ((f : ScriptFault) → EndsOf own (script_refused f) w → P (script_refused f)) → (EndsOf own failed w → P failed)
+      → r ≡ Err x → IfErr r (λ y. EndsOf own (stop_ending (of_script y)) w) → s ≡ of_script x → P (stop_ending s)
+  short_of own w r x s line fault is ends from =
+      subst (λ y. P (stop_ending y)) (sym from) (script_by x (subst (λ z. IfErr z (λ y. EndsOf own (stop_ending (of_script y)) w)) is ends))
     where
-      script_by : (x : ScriptStop) → EndsBy form (stop_ending (of_script x)) w → P (stop_ending (of_script x))
+      script_by : (x : ScriptStop) → EndsOf own (stop_ending (of_script x)) w → P (stop_ending (of_script x))
       script_by (scripts.Unread f) e = line (fault_seen f) e
       script_by scripts.Failed e = fault e
+
+  pub short_by : (form : HitForm) (w : Wrote) (r : Result WhatCame ScriptStop) (x : ScriptStop) (s : RunStop) → ((f : ScriptFault) → EndsBy form (script_refused f) w → P (script_refused f)) → (EndsBy form failed w → P failed)
+      → r ≡ Err x → IfErr r (λ y. EndsBy form (stop_ending (of_script y)) w) → s ≡ of_script x → P (stop_ending s)
+  short_by form = short_of (IsOwnText form)
 
 -- ---- over any files, where nothing was put
 module _ (a s : List ℕ) (w : Wrote) (x : RunStop) (same : w.new ≡ w.old) where
@@ -197,3 +206,44 @@ module _ (a s : List ℕ) (w : Wrote) (x : RunStop) (same : w.new ≡ w.old) whe
 
   pub replay_damaged : IsOfIndex x → ReplayEnds (stop_ending x) a s w
   replay_damaged is = index_by (λ e. ReplayEnds e a s w) x is (λ rule at. same) (nothing_put Titled w same) same
+
+  pub live_absent : (name : List ℕ) → IsAbsence x name → (name ≡ a) ⊎ (name ≡ s) → LiveEnds (stop_ending x) a s w
+  live_absent name is one = absence_by (λ e. LiveEnds e a s w) x name is (one, same) (nothing_put_of IsLiveText w same)
+
+  pub live_damaged : IsOfIndex x → LiveEnds (stop_ending x) a s w
+  live_damaged is = index_by (λ e. LiveEnds e a s w) x is (λ rule at. same) (nothing_put_of IsLiveText w same) same
+
+-- ---- of `live`, over files that tell, where nothing was put
+module _ (h : Held) (i s : List ℕ) (before now : ℕ) (w : Wrote) (same : w.new ≡ w.old) where
+  pub live_first : (x : RunStop) → IsAbsence x i → IsMissing x (map.get h i) → LiveTold (stop_ending x) h i s before now w
+  live_first (stops.Absent said) is missing = inl (inl (is, missing), same)
+  live_first stops.Failed is missing = inl (tt, same)
+  live_first stops.Usage is missing = absurd is
+  live_first (stops.Collection f) is missing = absurd is
+  live_first stops.Memory is missing = absurd is
+  live_first (stops.Script f) is missing = absurd is
+  live_first (stops.Damaged rule at) is missing = absurd is
+  live_first stops.Changed is missing = absurd is
+  live_first (stops.Merge f) is missing = absurd is
+
+  pub live_second : (x : RunStop) → IsHeld (map.get h i) → IsAbsence x s → IsMissing x (map.get h s) → LiveTold (stop_ending x) h i s before now w
+  live_second (stops.Absent said) first is missing = inl (inr (is, first, missing), same)
+  live_second stops.Failed first is missing = inl (tt, same)
+  live_second stops.Usage first is missing = absurd is
+  live_second (stops.Collection f) first is missing = absurd is
+  live_second stops.Memory first is missing = absurd is
+  live_second (stops.Script f) first is missing = absurd is
+  live_second (stops.Damaged rule at) first is missing = absurd is
+  live_second stops.Changed first is missing = absurd is
+  live_second (stops.Merge f) first is missing = absurd is
+
+  pub live_unopened : (x : RunStop) → AreHeld h i s → IsOfIndex x → IsDamage (held_bytes h i) x → LiveTold (stop_ending x) h i s before now w
+  live_unopened (stops.Damaged rule at) both is broken = inl ((both, broken), same)
+  live_unopened stops.Failed both is broken = inl (tt, same)
+  live_unopened stops.Memory both is broken = inl (both, same)
+  live_unopened stops.Usage both is broken = absurd is
+  live_unopened (stops.Absent said) both is broken = absurd is
+  live_unopened (stops.Collection f) both is broken = absurd is
+  live_unopened (stops.Script f) both is broken = absurd is
+  live_unopened stops.Changed both is broken = absurd is
+  live_unopened (stops.Merge f) both is broken = absurd is

@@ -1,12 +1,13 @@
 -- The first line of a text, seen through a window onto its front.
-use Rattle.std.proofs.Common.{◌≡◌, ℕ, ◌+◌, ◌-◌, ◌<◌, ◌≤◌, Bool, true, false, min, List, [], ◌∷◌, ◌++◌, length, take, drop, get_or, ltb, eqb, cond, inl, inr, refl, sym, ap, subst, ◌∙◌, arith}
+use Rattle.std.proofs.Common.{◌≡◌, ◌≢◌, ℕ, ◌+◌, ◌-◌, ◌<◌, ◌≤◌, Bool, true, false, min, List, [], ◌∷◌, ◌++◌, length, take, drop, get_or, ltb, eqb, cond, inl, inr, refl, sym, ap, subst, ◌∙◌, arith}
 use Rattle.std.specs.Prelude.{Option, Some, None}
-use Rattle.std.specs.List.{position_or_len}
+use Rattle.std.specs.List.{All, position_or_len}
 use Rattle.std.specs.Str.Lines.{lines, strip_carriage_return}
 use Rattle.std.proofs.lemmas.Bool.{false_from_ne_true}
 use Rattle.std.proofs.lemmas.Bool.Decides.{nat_tests}
 use Rattle.std.proofs.lemmas.Grind.{common_steps}
 use Rattle.std.proofs.lemmas.List.{take_all, take-take, drop-drop, drop_all, get_or-take, take-append-le, length-take, length-drop}
+use Rattle.std.proofs.lemmas.List.Elements.{All-from_get_or, All-take}
 use Rattle.std.proofs.lemmas.List.Sums.{fails_before_first, passes_at_first}
 use Rattle.memchr.specs.Find.{IsFirstByte, is_byte}
 use Rattle.cs_base.specs.declared.content.limits.TheConstants.{MAX_SCRIPT_LINE_BYTES}
@@ -117,3 +118,20 @@ module _ (b w tail : List ℕ) (at size room len next : ℕ) (whole : length b �
   -- what the window shows is the line at its place in the file, or both are too long
   pub window_line : Shows w len next → IsFirstLine (drop at b) (take len (w ++ tail)) (drop (at + next) b)
   window_line h = subst (λ x. IsFirstLine s x (drop (at + next) b)) (sym shown) (subst (λ x. IsFirstLine s (take len w) x) (sym rest) (by_end h))
+
+-- ---- a line ends at its LF
+strip_all : (l : List ℕ) (t : Bool) → All (λ b. b ≢ 10) l → All (λ b. b ≢ 10) (cond t (take (length l - 1) l) l)
+strip_all l true h = All-take (λ b. b ≢ 10) (length l - 1) l h
+strip_all l false h = h
+
+shown_all : (w : List ℕ) (len next : ℕ) → Shows w len next → All (λ b. b ≢ 10) (take len w)
+shown_all w len next (inl h) =
+    let front : All (λ b. b ≢ 10) (take h.0 w) = All-from_get_or (λ b. b ≢ 10) (take h.0 w) 0 (λ k l e.
+        let low : k < h.0 = let size = length-take h.0 w in omega (arith, size, l) in
+        h.2.0.before k (omega arith) low (ap (λ x. eqb x 10) (sym (get_or-take h.0 w k 0 low) ∙ e))) in
+    subst (All (λ b. b ≢ 10)) (sym h.3) (strip_all (take h.0 w) _ front)
+shown_all w len next (inr h) = All-take (λ b. b ≢ 10) len w (All-from_get_or (λ b. b ≢ 10) w 0 (λ k l e. h.0 k (omega arith) l (ap (λ x. eqb x 10) e)))
+
+-- so it has none, also where more stands behind the window
+pub no_feed : (w tail : List ℕ) (len next : ℕ) → len ≤ length w → Shows w len next → All (λ b. b ≢ 10) (take len (w ++ tail))
+no_feed w tail len next within h = subst (All (λ b. b ≢ 10)) (sym (take-append-le len w tail within)) (shown_all w len next h)

@@ -15,7 +15,7 @@
 --   Caused e ..                              the same for the counts of files and of out: one of the two rose
 --
 -- The table: build COLLECTION INDEX, ask COLLECTION SCRIPT, replay INDEX SCRIPT, serve INDEX PORT CONNS, trial N, upgrade INDEX NEW,
--- import csv SOURCE INDEX, import jsonl SOURCE INDEX, excerpts COLLECTION SCRIPT, merge INDEX1 INDEX2 NEW.
+-- import csv SOURCE INDEX, import jsonl SOURCE INDEX, excerpts COLLECTION SCRIPT, merge INDEX1 INDEX2 NEW, live INDEX SCRIPT.
 use Rattle.std.specs.Prelude.{ℕ, Bool, ◌&&◌, nat_le, nat_lt, if◌then◌else◌, List, [], ◌∷◌, Option, Some, None, codes, ◌≡◌, ◌⊎◌, ◌≤◌, ◌++◌}
 use Rattle.std.specs.Str.{bytes_eq}
 use Rattle.cs_model.specs.Digits.{has_digits, number_of}
@@ -42,6 +42,7 @@ pub data Command : Type 0 where
   trial : List ℕ → Command
   upgrade : List ℕ → List ℕ → Command
   merge : List ℕ → List ℕ → List ℕ → Command
+  live : List ℕ → List ℕ → Command
 
 -- 1 to n digits, zeros in front included, whose number is from 1 to g; no word without bytes
 abbrev pub is_number : ℕ → ℕ → List ℕ → Bool
@@ -58,7 +59,8 @@ two_words c a b =
     else (if bytes_eq c (codes "ask") then Some (ask Titled a b)
     else (if bytes_eq c (codes "replay") then Some (replay a b)
     else (if bytes_eq c (codes "upgrade") then Some (upgrade a b)
-    else some_if (bytes_eq c (codes "excerpts")) (ask Excerpted a b))))
+    else (if bytes_eq c (codes "excerpts") then Some (ask Excerpted a b)
+    else some_if (bytes_eq c (codes "live")) (live a b)))))
 
 -- `trial` with a number from 1 to `MAX_TRIAL`
 abbrev pub trial_words : List ℕ → List ℕ → Option Command
@@ -116,7 +118,7 @@ status (merge_refused r) = 10
 -- the line on standard error, with its ending; no bytes where all was done
 abbrev pub line_of : Ending → List ℕ
 line_of done = []
-line_of usage = codes "usage: complete build COLLECTION INDEX | ask COLLECTION SCRIPT | replay INDEX SCRIPT | serve INDEX PORT CONNS | trial N | upgrade INDEX NEW | import csv SOURCE INDEX | import jsonl SOURCE INDEX | excerpts COLLECTION SCRIPT | merge INDEX1 INDEX2 NEW\n"
+line_of usage = codes "usage: complete build COLLECTION INDEX | ask COLLECTION SCRIPT | replay INDEX SCRIPT | serve INDEX PORT CONNS | trial N | upgrade INDEX NEW | import csv SOURCE INDEX | import jsonl SOURCE INDEX | excerpts COLLECTION SCRIPT | merge INDEX1 INDEX2 NEW | live INDEX SCRIPT\n"
 line_of (refused r) = codes "collection: " ++ (refused_words r ++ 10 ∷ [])
 line_of (damaged rule at) = codes "index: rule " ++ (decimal rule ++ (codes " at " ++ (decimal at ++ 10 ∷ [])))
 line_of (absent name) = codes "absent: " ++ name ++ 10 ∷ []

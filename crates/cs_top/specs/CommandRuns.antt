@@ -11,7 +11,8 @@ use Rattle.std.specs.Option.{ForSome}
 use Rattle.cs_base.specs.outside.Causes.{Rose}
 use Rattle.cs_base.specs.outside.Outside.{Held}
 use Rattle.cs_top.specs.Build.{BuildRan, CanBuild}
-use Rattle.cs_top.specs.CommandLine.{Command, build, ask, replay, serve, trial, upgrade, merge, Ending, usage}
+use Rattle.cs_top.specs.CommandLine.{Command, build, ask, replay, serve, trial, upgrade, merge, live, Ending, usage}
+use Rattle.cs_top.specs.LiveRuns.{LiveRan}
 use Rattle.cs_top.specs.Merge.{MergeRan, CanMerge}
 use Rattle.cs_top.specs.Met.{Met, LeavesAll}
 use Rattle.cs_top.specs.ScriptRuns.{AskRan, CanAsk, ReplayRan, CanReplay}
@@ -34,6 +35,7 @@ Ran e (Some (serve i p n)) m = ServeRan e i p n m
 Ran e (Some (trial n)) m = TrialRan e n m
 Ran e (Some (upgrade i n)) m = UpgradeRan e i n m
 Ran e (Some (merge a b n)) m = MergeRan e a b n m
+Ran e (Some (live i s)) m = LiveRan e i s m
 
 -- files from which a command can do all; `trial` needs none
 abbrev pub IsAble : Option Command → Held → Type 0
@@ -44,6 +46,7 @@ IsAble (Some (serve i p n)) h = CanServe h i
 IsAble (Some (trial n)) h = Unit {0}
 IsAble (Some (upgrade i n)) h = CanUpgrade h i
 IsAble (Some (merge a b n)) h = CanMerge h a b
+IsAble (Some (live i s)) h = CanReplay h i s
 IsAble None h = ⊥
 
 -- where no count rose all was done, or memory ran out

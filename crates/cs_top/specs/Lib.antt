@@ -5,6 +5,10 @@ pub mod CommandRuns
 pub mod Filed
 pub mod HitForms
 pub mod Import
+pub mod LiveAnswering
+pub mod LiveRuns
+pub mod LiveSteps
+pub mod LiveTexts
 pub mod Merge
 pub mod Met
 pub mod OutcomeTexts

@@ -1,6 +1,9 @@
--- How the lines of a script end a run, and what was put for them, over any relation A of a line and its text; and how one line is met.
+-- How the lines of a script end a run, and what was put for them, over any relation R of lines and texts, or A of a line and its text; and how
+-- one line is met.
 --
---   ScriptEnds A e ls ts w      the script ended so, and the texts ts were put
+--   MayPutAll                   which texts may be put for which lines
+--   ScriptEndsBy R e ls ts w    the script ended so, and the texts ts were put
+--   ScriptEnds A e ls ts w      the same, each text by its own line
 --   Tally came before now ts    a count of failures rose by at least as many as say that a read failed, and none does where none came
 --   ShortTally e w before now ts     the same of a script that ended early; where its end is a failure and out's count didn't rise, the
 --                               count rose once more
@@ -13,11 +16,11 @@
 --   EndsAt A e s p w ..           the script ends so at the line at that place
 --
 -- The last two numbers of what is said of a line are a count of the files' failures before and after it.
-use Rattle.std.specs.Prelude.{◌≡◌, ◌≢◌, ◌⊎◌, ℕ, ◌+◌, ◌≤◌, Bool, true, List, None, Some, ◌<◌, [], ◌∷◌, ◌++◌, length, drop, Option}
+use Rattle.std.specs.Prelude.{◌≡◌, ◌≢◌, ◌⊎◌, ℕ, ◌+◌, ◌≤◌, Bool, true, List, None, Some, ◌<◌, [], ◌∷◌, ◌++◌, length, drop, take, Option}
 use Rattle.cs_base.specs.outside.Causes.{Rose}
 use Rattle.cs_base.specs.outside.Outside.{Grew, GrewByPrefix}
 use Rattle.cs_hub.specs.Streams.{RoseBy}
-use Rattle.cs_model.specs.Outputs.{MayPut, PutAll, PutSome, put_of, failed_reads, first_fault, readable_lines, line_fault}
+use Rattle.cs_model.specs.Outputs.{MayPut, OneEach, put_of, failed_reads, first_fault, readable_lines, line_fault}
 use Rattle.cs_top.specs.CommandLine.{Ending, done, failed, script_refused}
 use Rattle.cs_top.specs.Met.{Wrote}
 use Rattle.cs_top.specs.declared.script.WhatCame.{WhatCame}
@@ -27,13 +30,21 @@ use Rattle.cs_base.specs.declared.content.limits.TheConstants.{MAX_SCRIPT_LINE_B
 use Rattle.cs_top.specs.Answering.{Costs}
 use Rattle.cs_top.specs.declared.lines.Place.{Place}
 
+-- which texts may be put for which lines; for some lines there may be none
+abbrev pub MayPutAll : Type 1
+MayPutAll = List (List ℕ) → List (List ℕ) → Type 0
+
 -- Done: each line is read, and answered. A refused line: it is the first with a fault, and those before it were answered.
 -- Failed: some first lines were answered, the last of them maybe in part, but only where out failed. It ends in no other way.
+abbrev pub ScriptEndsBy : MayPutAll → Ending → List (ℕ × List ℕ) → List (List ℕ) → Wrote → Type 0
+ScriptEndsBy R done ls ts w = (first_fault ls ≡ None) × (R (readable_lines ls) ts × Grew w.old (put_of ts) w.new)
+ScriptEndsBy R (script_refused f) ls ts w = (first_fault ls ≡ Some f) × (R (readable_lines ls) ts × Grew w.old (put_of ts) w.new)
+ScriptEndsBy R failed ls ts w = (R (take (length ts) (readable_lines ls)) ts × GrewByPrefix w.old (put_of ts) w.new) × (¬ Rose w.before w.now → Grew w.old (put_of ts) w.new)
+ScriptEndsBy R e ls ts w = ⊥
+
+-- one text a line
 abbrev pub ScriptEnds : MayPut → Ending → List (ℕ × List ℕ) → List (List ℕ) → Wrote → Type 0
-ScriptEnds A done ls ts w = (first_fault ls ≡ None) × PutAll A (readable_lines ls) ts w.old w.new
-ScriptEnds A (script_refused f) ls ts w = (first_fault ls ≡ Some f) × PutAll A (readable_lines ls) ts w.old w.new
-ScriptEnds A failed ls ts w = PutSome A (readable_lines ls) ts w.old w.new × (¬ Rose w.before w.now → Grew w.old (put_of ts) w.new)
-ScriptEnds A e ls ts w = ⊥
+ScriptEnds A e ls ts w = ScriptEndsBy (OneEach A) e ls ts w
 
 -- of no texts that the count didn't fall
 pub record Tally (came : WhatCame) (before now : ℕ) (ts : List (List ℕ)) : Type 0 where

@@ -52,7 +52,7 @@ use Rattle.cs_more.specs.declared.fault.FlatFault.TheVariants as sizes
 use Rattle.cs_docs.specs.FaultRefusals.{refusal_of, rows_refusal_of, words_said}
 use Rattle.cs_build.specs.Building.{build_refusal_of}
 use Rattle.cs_merge.specs.Merging.{NamesRefusal, merge_refusal_of}
-use Rattle.cs_top.specs.CommandLine.{Command, build, ask, replay, serve, trial, upgrade, merge, is_number, Ending, done, usage, refused, damaged, absent, failed, no_memory, script_refused, changed, merge_refused, CausedBy}
+use Rattle.cs_top.specs.CommandLine.{Command, build, ask, replay, serve, trial, upgrade, merge, live, is_number, Ending, done, usage, refused, damaged, absent, failed, no_memory, script_refused, changed, merge_refused, CausedBy}
 use Rattle.cs_top.specs.Answering.{FileView}
 use Rattle.cs_top.specs.Import.{Refusal, of_collection, of_csv, of_jsonl}
 use Rattle.cs_top.specs.Met.{HasToldSize, OfBytes}
@@ -87,6 +87,7 @@ seen_command (read.Serve i p n) = serve i.now p.now n.now
 seen_command (read.Trial n) = trial n.now
 seen_command (read.Upgrade i n) = upgrade i.now n.now
 seen_command (read.Merge a b n) = merge a.now b.now n.now
+seen_command (read.Live i s) = live i.now s.now
 
 -- the words of `serve` and of `trial` are such numbers; of another command nothing is said
 abbrev pub HasNumbers : Read → Type 0

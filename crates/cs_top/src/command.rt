@@ -9,6 +9,7 @@ ghost use Rattle.cs_top.specs.Views.{ended};
 use crate::ask::ask;
 use crate::build::build;
 use crate::ending::{RunStop, status_of, tell};
+use crate::live::live_script;
 use crate::merge::merge_indexes;
 use crate::replay::replay;
 use crate::serve::serve_index;
@@ -81,5 +82,8 @@ fn carry_out<'a, F: Files, H: Hub, O: Sink>(
         Some(Command::Merge { first, second, new }) => merge_indexes(
             alloc, first, second, new, files,
         ),
+        Some(Command::Live { index, script }) => {
+            live_script(alloc, index, script, files, out)
+        }
     }
 }

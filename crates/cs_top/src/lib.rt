@@ -11,6 +11,7 @@ mod command;
 mod ending;
 mod files;
 mod lines;
+mod live;
 mod merge;
 mod opening;
 mod replay;

@@ -1,6 +1,7 @@
 //! The lines of a script, read one after the other.
-ghost use Rattle.std.specs.Prelude.{◌≡◌, ◌<◌, ◌≤◌, IfOk, length, take, drop};
+ghost use Rattle.std.specs.Prelude.{◌≡◌, ◌≢◌, ◌<◌, ◌≤◌, All, IfOk, length, take, drop};
 ghost use Rattle.std.specs.Option.{option_map};
+ghost use Rattle.cs_base.specs.content.Bytes.{line_feed};
 ghost use Rattle.cs_base.specs.outside.Causes.{Counted};
 ghost use Rattle.cs_docs.specs.FaultRefusals.{reason_text};
 ghost use Rattle.cs_model.specs.Collection.{without_mark};
@@ -113,6 +114,7 @@ pub(crate) fn read_line<F: Files>(
     requires room { length buffer.old ≡ WINDOW_BYTES }
 
     ensures line { OfFile (F.held files.old) file.entry (λ b. IfOk result (λ r. IsFirstLine (drop at b) (take r.0 buffer.new) (drop r.1 b))) }
+    ensures one { IfOk result (λ r. All (λ b. b ≢ line_feed) (take r.0 buffer.new)) }
     ensures len { IfOk result (λ r. r.0 ≤ WINDOW_BYTES) }
     ensures next { IfOk result (λ r. (at < r.1) × (r.1 ≤ file.entry.size)) }
     ensures same { F.held files.new ≡ F.held files.old }

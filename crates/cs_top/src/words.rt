@@ -90,6 +90,13 @@ pub enum Command<'a> {
         /// The name of the file that is made.
         new: &'a str,
     },
+    /// `live INDEX SCRIPT`.
+    Live {
+        /// The index file's name.
+        index: &'a str,
+        /// The script's name.
+        script: &'a str,
+    },
 }
 
 /// The command; None where the words aren't in the table.
@@ -136,6 +143,10 @@ fn two_words<'a>(command: &str, first: &'a str, second: &'a str) -> Option<Comma
         "excerpts" => Some(Command::Ask {
             form: HitForm::Excerpted,
             collection: first,
+            script: second,
+        }),
+        "live" => Some(Command::Live {
+            index: first,
             script: second,
         }),
         _ => None,

@@ -27,7 +27,7 @@ use std::alloc::Global;
 
 /// What is put for a line that is read, with its line ending.
 #[derive(Drop)]
-enum Answer {
+pub(crate) enum Answer {
     /// Its text.
     Text(Vec<u8>),
     /// The text of want of memory.
@@ -80,8 +80,8 @@ pub(crate) fn answer_line<F: Files, O: Sink>(
     put_answer(out, &answer)
 }
 
-// Puts an answer, and says what came of the line.
-fn put_answer<O: Sink>(out: &mut O, answer: &Answer) -> Result<WhatCame, ScriptStop>
+/// Puts an answer, and says what came of the line.
+pub(crate) fn put_answer<O: Sink>(out: &mut O, answer: &Answer) -> Result<WhatCame, ScriptStop>
     ensures ok { OnOk result (Grew (O.written out.old) (line_bytes answer.now) (O.written out.new)) }
     ensures came { IfOk result (λ c. c ≡ came_of_answer answer.now) }
     ensures err { OnErr result (GrewByPrefix (O.written out.old) (line_bytes answer.now) (O.written out.new)) }
@@ -98,9 +98,9 @@ fn put_answer<O: Sink>(out: &mut O, answer: &Answer) -> Result<WhatCame, ScriptS
     }
 }
 
-// The text in a line's place where memory ran out, with its line ending.
+/// The text in a line's place where memory ran out, with its line ending.
 #[tactic(auto, using(crate::proofs::MemoryText::memory_line))]
-fn memory_line() -> &'static [u8]
+pub(crate) fn memory_line() -> &'static [u8]
     ensures { result.now ≡ memory_text ++ 10 ∷ [] }
 {
     b"{\"error\":\"memory\"}\n"
@@ -147,8 +147,8 @@ fn answer_params<F: Files>(
     answer_by(showing, outcome)
 }
 
-// What is put where this came of parameters.
-fn answer_by(showing: &Showing<'_>, outcome: RequestOutcome) -> Answer
+/// What is put where this came of parameters.
+pub(crate) fn answer_by(showing: &Showing<'_>, outcome: RequestOutcome) -> Answer
     ensures { IsAnswerBy showing.now outcome result }
 {
     let alloc = showing.alloc;

@@ -10,7 +10,7 @@ ghost use Rattle.cs_top.specs.PutTexts.{CutsLine, EndsBy, PutsLine, PutsTexts};
 ghost use Rattle.cs_top.specs.ScriptEndings.{ScriptCaused, ScriptEnds, ShortTally, Tally, Reaches, EndsAt};
 ghost use Rattle.cs_top.specs.Views.{IsSized, OfFile, of_script, stop_ending};
 
-mod answers;
+pub(crate) mod answers;
 
 use crate::answering::IndexFile;
 use crate::files::HeldFile;
@@ -32,8 +32,8 @@ pub(crate) enum WhatCame {
 }
 
 impl WhatCame {
-    // What came of these lines and of one more.
-    fn and(self, more: WhatCame) -> WhatCame
+    /// What came of these lines and of one more.
+    pub(crate) fn and(self, more: WhatCame) -> WhatCame
         ensures { result ≡ worst self more }
     {
         match (self, more) {

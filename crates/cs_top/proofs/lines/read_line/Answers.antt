@@ -2,7 +2,7 @@ use Rattle.std.proofs.Common.{◌≡◌, ap, ◌∙◌, arith, length, take, dro
 use Rattle.std.proofs.lemmas.List.{length-take}
 use Rattle.std.specs.FinMap as map
 use Rattle.cs_top.specs.Met.{held_bytes}
-use Rattle.cs_top.proofs.WindowLemmas.{held_size, window_line}
+use Rattle.cs_top.proofs.WindowLemmas.{held_size, no_feed, window_line}
 use Rattle.cs_top.proofs.lines.read_line.Goals as goal
 
 pub returns-clause-line : goal.returns-clause-line
@@ -13,3 +13,7 @@ returns-clause-line g c h held =
     window_line b c.read_at.new.out (drop room c.args.buffer.now) c.args.at c.args.file.size room c.first_end-len.result.0 c.first_end-len.result.1
     (held_size (map.get h c.args.file.name.now) c.args.file.size (c.requires.size h held)) c.requires.within c.min-room.ensures
     (c.in_ok-read_at.ensures.ok h held ∙ ap (λ n. take n (drop c.args.at b)) len) c.first_end-len.ensures.len c.first_end-len.ensures.shows
+
+pub returns-clause-one : goal.returns-clause-one
+returns-clause-one g c =
+    no_feed c.read_at.new.out (drop c.min-room.result c.args.buffer.now) c.first_end-len.result.0 c.first_end-len.result.1 c.first_end-len.ensures.len c.first_end-len.ensures.shows

@@ -3,7 +3,7 @@ use Rattle.std.specs.Prelude.{filter}
 use Rattle.std.specs.List.{enumerate_from}
 use Rattle.std.specs.Str.Lines.{lines}
 use Rattle.std.specs.FinMap as map
-use Rattle.cs_model.specs.Outputs.{script_lines}
+use Rattle.cs_model.specs.Outputs.{OneEach, script_lines}
 use Rattle.cs_model.specs.Words.{is_filled}
 use Rattle.cs_top.specs.Answering.{CameOver, MayAnswer}
 use Rattle.cs_top.specs.CommandLine.{failed}
@@ -28,7 +28,7 @@ returns-in_err-at-clause-short g c k over h held =
     let fn = g.F.Files.faults c.first_place.new.files in
     let all : (ts : List (List ℕ)) × ScriptEnds a failed ls ts (wrote g.O.Sink.written g.O.Sink.faults c.args.out.now c.args.out.now)
     × ShortTally failed (wrote g.O.Sink.written g.O.Sink.faults c.args.out.now c.args.out.now) fb fn ts =
-    unread (at_start a ls ls w fb fb refl refl) n n w fn refl c.in_err-at.ensures.counted.failed in
+    unread (at_start (OneEach a) ls ls w fb fb tt refl refl) n n w fn refl c.in_err-at.ensures.counted.failed in
     search rules
 
 pub returns-in_err-at-clause-cuts : goal.returns-in_err-at-clause-cuts
@@ -39,7 +39,7 @@ returns-in_err-at-clause-cuts g c =
 pub loop-place-init : goal.loop-place-init
 loop-place-init g c = record {
   so_far = λ k over h held.
-      at_start _ _ _ (g.O.Sink.written c.args.out.now) (g.F.Files.faults c.args.files.now) (g.F.Files.faults c.first_place.new.files) (ap (λ x. filter (λ l. is_filled l.1) (enumerate_from 1 (lines x))) (c.in_ok-at.ensures.mark h held))
+      at_start (OneEach (MayAnswer c.args.showing.now c.args.file.now k)) _ _ (g.O.Sink.written c.args.out.now) (g.F.Files.faults c.args.files.now) (g.F.Files.faults c.first_place.new.files) tt (ap (λ x. filter (λ l. is_filled l.1) (enumerate_from 1 (lines x))) (c.in_ok-at.ensures.mark h held))
       c.in_ok-at.ensures.counted.quiet;
   puts = puts_none (form_by c.args.showing.now) (g.O.Sink.written c.args.out.now);
   came = came_none c.args.engine.now c.args.file.now _ _ _ c.in_ok-at.ensures.counted.quiet;
@@ -90,7 +90,7 @@ loop-place-preserved g c =
           let there = next.ensures.ok k (inv.over.stays k over) h (inv.over.files ∙ held) in
           let here : Reaches (MayAnswer c.args.showing.now c.args.file.now k) b c.loop-place.place next.next (g.O.Sink.written c.loop-place.out) (g.O.Sink.written c.answer_next.new.out) next.met (g.F.Files.faults c.loop-place.files) (g.F.Files.faults c.answer_next.new.files) =
           subst (λ f. Reaches (MayAnswer c.args.showing.now f k) b c.loop-place.place next.next (g.O.Sink.written c.loop-place.out) (g.O.Sink.written c.answer_next.new.out) next.met (g.F.Files.faults c.loop-place.files) (g.F.Files.faults c.answer_next.new.files)) inv.over.file there in
-          subst (λ x. HasAnswered (MayAnswer c.args.showing.now c.args.file.now k) (script_lines b) (lines_at b next.next) (g.O.Sink.written c.args.out.now) (g.O.Sink.written c.answer_next.new.out) x (g.F.Files.faults c.args.files.now) (g.F.Files.faults c.answer_next.new.files)) (sym is)
+          subst (λ x. HasAnswered (OneEach (MayAnswer c.args.showing.now c.args.file.now k)) (script_lines b) (lines_at b next.next) (g.O.Sink.written c.args.out.now) (g.O.Sink.written c.answer_next.new.out) x (g.F.Files.faults c.args.files.now) (g.F.Files.faults c.answer_next.new.files)) (sym is)
           (goes_on b c.loop-place.place (inv.so_far k over h held) next.next (g.O.Sink.written c.answer_next.new.out) next.met (g.F.Files.faults c.answer_next.new.files) here);
       puts =
           subst (λ x. PutsTexts (form_by c.args.showing.now) x (g.O.Sink.written c.args.out.now) (g.O.Sink.written c.answer_next.new.out)) (sym is)
