@@ -30,4 +30,4 @@ pub use command::run;
 pub use words::{Command, Form, HitForm, command_of};
 
 /// The version of the program, which nothing prints.
-pub const VERSION: &str = "0.1.0";
+pub const VERSION: &str = "0.2.0";
