@@ -58,7 +58,7 @@ module _ (w : Weights) (k : Corpus) (cs : List Change) (s : LiveState) (h : IsCh
   changed_by_addition doc next = record {
     corpus =
         (λ i. record { titles = finmap.insert (h.corpus i).titles (next i) doc.title; rows = members_in by_row ((h.corpus i).rows ++ doc_rows w (next i, doc)) })
-            ∙ sym (ap (λ x. x.corpus) (one_more (added doc)));
+        ∙ sym (ap (λ x. x.corpus) (one_more (added doc)));
     changes = counted_more (added doc);
     additions = ap (λ ds. ds ++ doc ∷ []) h.additions ∙ sym (additions_behind cs (added doc ∷ []));
   }

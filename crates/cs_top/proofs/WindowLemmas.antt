@@ -127,8 +127,8 @@ strip_all l false h = h
 shown_all : (w : List ℕ) (len next : ℕ) → Shows w len next → All (λ b. b ≢ 10) (take len w)
 shown_all w len next (inl h) =
     let front : All (λ b. b ≢ 10) (take h.0 w) = All-from_get_or (λ b. b ≢ 10) (take h.0 w) 0 (λ k l e.
-        let low : k < h.0 = let size = length-take h.0 w in omega (arith, size, l) in
-        h.2.0.before k (omega arith) low (ap (λ x. eqb x 10) (sym (get_or-take h.0 w k 0 low) ∙ e))) in
+    let low : k < h.0 = let size = length-take h.0 w in omega (arith, size, l) in
+    h.2.0.before k (omega arith) low (ap (λ x. eqb x 10) (sym (get_or-take h.0 w k 0 low) ∙ e))) in
     subst (All (λ b. b ≢ 10)) (sym h.3) (strip_all (take h.0 w) _ front)
 shown_all w len next (inr h) = All-take (λ b. b ≢ 10) len w (All-from_get_or (λ b. b ≢ 10) w 0 (λ k l e. h.0 k (omega arith) l (ap (λ x. eqb x 10) e)))
 

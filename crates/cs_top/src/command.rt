@@ -82,8 +82,6 @@ fn carry_out<'a, F: Files, H: Hub, O: Sink>(
         Some(Command::Merge { first, second, new }) => merge_indexes(
             alloc, first, second, new, files,
         ),
-        Some(Command::Live { index, script }) => {
-            live_script(alloc, index, script, files, out)
-        }
+        Some(Command::Live { index, script }) => { live_script(alloc, index, script, files, out) }
     }
 }
