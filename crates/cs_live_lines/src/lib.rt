@@ -9,6 +9,4 @@ mod texts;
 
 pub use document::{DocumentFault, LineRule, added_document};
 pub use line::{LiveLine, doc_number, live_line};
-pub use texts::{
-    Full, absent_line, added_line, change_line, deleted_line, full_line, refused_line,
-};
+pub use texts::{Full, absent_line, change_line, full_line, refused_line};

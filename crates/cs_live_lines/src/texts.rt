@@ -1,15 +1,10 @@
 //! The texts of what becomes of a line that changes the corpus, each with its line ending.
-ghost use Rattle.std.specs.Prelude.{◌≡◌, ◌∷◌, ◌++◌, [], IfOk, false};
-ghost use Rattle.serde_json.specs.View.{view};
-ghost use Rattle.serde_json.specs.Written.{compact_text, has_float};
+ghost use Rattle.std.specs.Prelude.{◌≡◌, ◌∷◌, ◌++◌, []};
 ghost use Rattle.cs_base.specs.content.Bytes.{line_feed};
-ghost use Rattle.cs_model_live.specs.LiveLines.{absent_text, added_text, change_text, deleted_text, document_text, full_text};
+ghost use Rattle.cs_model_live.specs.LiveLines.{absent_text, change_text, document_text, full_text};
 ghost use Rattle.cs_live_lines.specs.LineViews.{broken, full_seen};
 
 use crate::document::LineRule;
-use cs_base::Memory;
-use serde_json::{Value, json};
-use std::alloc::{AllocError, Global};
 
 /// What there is no more room for.
 #[derive(Clone, Copy, Debug, PartialEq, Eq)]
@@ -60,40 +55,4 @@ pub fn refused_line(rule: LineRule) -> &'static [u8]
         LineRule::BadFacet => b"{\"error\":\"document\",\"rule\":\"bad facet\"}\n",
         LineRule::BadName => b"{\"error\":\"document\",\"rule\":\"bad facet name\"}\n",
     }
-}
-
-/// The text of a document that is added, behind so many changes.
-pub fn added_line(alloc: Global, doc: u32, changes: u32) -> Result<Vec<u8>, Memory>
-    ensures { IfOk result (λ b. b.items ≡ added_text doc changes ++ line_feed ∷ []) }
-{
-    let value = added_value(alloc, doc, changes)?;
-    let mut bytes = value.to_vec(alloc)?;
-    bytes.push(b'\n')?;
-    Ok(bytes)
-}
-
-#[tactic(auto, unfolding(cs_model_live::specs::LiveLines::added_text))]
-fn added_value(alloc: Global, doc: u32, changes: u32) -> Result<Value, AllocError>
-    ensures text { IfOk result (λ v. compact_text (view v) ≡ added_text doc changes) }
-    ensures no_float { IfOk result (λ v. has_float (view v) ≡ false) }
-{
-    json!(in alloc; {"doc": doc, "state": changes})
-}
-
-/// The text of a document that is deleted, behind so many changes.
-pub fn deleted_line(alloc: Global, changes: u32) -> Result<Vec<u8>, Memory>
-    ensures { IfOk result (λ b. b.items ≡ deleted_text changes ++ line_feed ∷ []) }
-{
-    let value = deleted_value(alloc, changes)?;
-    let mut bytes = value.to_vec(alloc)?;
-    bytes.push(b'\n')?;
-    Ok(bytes)
-}
-
-#[tactic(auto, unfolding(cs_model_live::specs::LiveLines::deleted_text))]
-fn deleted_value(alloc: Global, changes: u32) -> Result<Value, AllocError>
-    ensures text { IfOk result (λ v. compact_text (view v) ≡ deleted_text changes) }
-    ensures no_float { IfOk result (λ v. has_float (view v) ≡ false) }
-{
-    json!(in alloc; {"state": changes})
 }

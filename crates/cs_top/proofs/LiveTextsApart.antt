@@ -4,6 +4,7 @@
 use Rattle.std.proofs.Common.{◌≡◌, ◌≢◌, ◌∙◌, ℕ, List, inl, inr, refl, sym, ap, arith}
 use Rattle.std.specs.Prelude.{get_or}
 use Rattle.serde_json.proofs.OnLiterals.{serde_json_on_literals}
+use Rattle.cs_live_lines.specs.LineViews.{broken}
 use Rattle.cs_model.specs.Collection.{CollectionRefusal}
 use Rattle.cs_model.specs.Faults.{changed_text, error_text}
 use Rattle.cs_model.specs.Outputs.{IsChangedText, read_text}
@@ -56,7 +57,7 @@ deleted_byte m = refl
 outcome_unread : (t : List ℕ) → IsOutcomeText t → t ≢ read_text
 outcome_unread t (inl is) e = apart 10 change_text read_text 99 114 change_bytes.1 read_bytes.1 (λ x. omega (arith, x)) (sym is ∙ e)
 outcome_unread t (inr (inl is)) e = apart 10 absent_text read_text 110 114 absent_bytes.1 read_bytes.1 (λ x. omega (arith, x)) (sym is ∙ e)
-outcome_unread t (inr (inr (inl (r, is)))) e = apart 10 (document_text r) read_text 100 114 (document_bytes r).1 read_bytes.1 (λ x. omega (arith, x)) (sym is ∙ e)
+outcome_unread t (inr (inr (inl (r, is)))) e = apart 10 (document_text (broken r)) read_text 100 114 (document_bytes (broken r)).1 read_bytes.1 (λ x. omega (arith, x)) (sym is ∙ e)
 outcome_unread t (inr (inr (inr (inl (f, is))))) e = apart 10 (full_text f) read_text 102 114 (full_bytes f).1 read_bytes.1 (λ x. omega (arith, x)) (sym is ∙ e)
 outcome_unread t (inr (inr (inr (inr (inl (d, m, is)))))) e = apart 2 (added_text d m) read_text 100 101 (added_byte d m) read_bytes.0 (λ x. omega (arith, x)) (sym is ∙ e)
 outcome_unread t (inr (inr (inr (inr (inr (m, is)))))) e = apart 2 (deleted_text m) read_text 115 101 (deleted_byte m) read_bytes.0 (λ x. omega (arith, x)) (sym is ∙ e)
@@ -65,7 +66,7 @@ outcome_unread t (inr (inr (inr (inr (inr (m, is)))))) e = apart 2 (deleted_text
 outcome_byte : (t : List ℕ) → IsOutcomeText t → byte 2 t ≢ 97
 outcome_byte t (inl is) e = let b = ap (byte 2) is ∙ change_bytes.0 in omega (arith, b, e)
 outcome_byte t (inr (inl is)) e = let b = ap (byte 2) is ∙ absent_bytes.0 in omega (arith, b, e)
-outcome_byte t (inr (inr (inl (r, is)))) e = let b = ap (byte 2) is ∙ (document_bytes r).0 in omega (arith, b, e)
+outcome_byte t (inr (inr (inl (r, is)))) e = let b = ap (byte 2) is ∙ (document_bytes (broken r)).0 in omega (arith, b, e)
 outcome_byte t (inr (inr (inr (inl (f, is))))) e = let b = ap (byte 2) is ∙ (full_bytes f).0 in omega (arith, b, e)
 outcome_byte t (inr (inr (inr (inr (inl (d, m, is)))))) e = let b = ap (byte 2) is ∙ added_byte d m in omega (arith, b, e)
 outcome_byte t (inr (inr (inr (inr (inr (m, is)))))) e = let b = ap (byte 2) is ∙ deleted_byte m in omega (arith, b, e)

@@ -5,7 +5,8 @@
 --   told_bytes o        what is put for an outcome, with its line ending
 --   HasOutcomeText o    this is one of these texts, or that of want of memory
 use Rattle.std.specs.Prelude.{◌≡◌, ◌⊎◌, ℕ, List, [], ◌∷◌, ◌++◌}
-use Rattle.cs_model.specs.Collection.{CollectionRefusal}
+use Rattle.cs_live_lines.specs.LineViews.{broken}
+use Rattle.cs_live_lines.specs.declared.document.LineRule.{LineRule}
 use Rattle.cs_model_live.specs.LiveLines.{absent_text, added_text, change_text, deleted_text, document_text, full_text}
 use Rattle.cs_model_live.specs.LiveStates.{Full}
 use Rattle.cs_top.specs.PutTexts.{IsOwnText}
@@ -13,11 +14,11 @@ use Rattle.cs_top.specs.declared.live.outcomes.Outcome.{Outcome}
 use Rattle.cs_top.specs.declared.live.outcomes.Outcome.TheVariants.{Line, Added, Deleted}
 use Rattle.cs_top.specs.declared.words.HitForm.TheVariants.{Titled}
 
--- no change is named, no document has the number, the document isn't accepted, there is no room for it, it is added, it is deleted
+-- no change is named, no document has the number, the document breaks a rule of one line, there is no room for it, it is added, it is deleted
 abbrev pub IsOutcomeText : List ℕ → Type 0
 IsOutcomeText t =
     (t ≡ change_text)
-    ⊎ ((t ≡ absent_text) ⊎ (((r : CollectionRefusal) × (t ≡ document_text r)) ⊎ (((f : Full) × (t ≡ full_text f)) ⊎ (((d : ℕ) × (m : ℕ) × (t ≡ added_text d m)) ⊎ ((m : ℕ) × (t ≡ deleted_text m))))))
+    ⊎ ((t ≡ absent_text) ⊎ (((r : LineRule) × (t ≡ document_text (broken r))) ⊎ (((f : Full) × (t ≡ full_text f)) ⊎ (((d : ℕ) × (m : ℕ) × (t ≡ added_text d m)) ⊎ ((m : ℕ) × (t ≡ deleted_text m))))))
 
 -- hits have titles alone
 abbrev pub IsLiveText : List ℕ → Type 0

@@ -4,6 +4,7 @@
 -- Source: this engine's own.
 --
 --   OwnText                       which texts lines may have of their own
+--   IsTextOf own t                such a text, or that of a failed read or of a changed index file
 --   TextOf own came t             the text of a line, by what came of it
 --   TextsOf own came ts           the texts of some lines, by what came of them
 --   PutsLineOf, CutsLineOf, PutsTextsOf, EndsOf      as the ones below

@@ -140,7 +140,7 @@ fn delete(alloc: Global, live: &mut Live, digits: &[u8]) -> Outcome
     }
 }
 
-// The only document of a collection, whichever weights that has, is one with the weights of an index.
+// The only document of a collection, whichever weights that has, is one with the weights of an index: `Live::weights` says that these are such.
 fn can_be_added(live: &Live, document: &Doc)
     requires { (w : Weights) → AreWeights w → IsOnlyDocument w document.now }
 
@@ -149,7 +149,7 @@ fn can_be_added(live: &Live, document: &Doc)
     let _ = live.weights();
 }
 
-// An index under changes is counted as the live corpus whose state it is in.
+// An index under changes is counted as the live corpus whose state it is in: `Live::changes` says so of the state that it tells.
 fn is_in_state(live: &Live)
     ensures { (b : List ℕ) (s : LiveState) → IsLiveAt b live.now s → IsStateOf b live.now s }
 {
