@@ -140,7 +140,8 @@ fn numbers_below(alloc: Global, n: u32) -> Result<Vec<u32>, Memory>
     Ok(numbers)
 }
 
-fn docs_of(index: &Index) -> u32
+/// How many documents an index has.
+pub(crate) fn docs_of(index: &Index) -> u32
     ensures { result ≡ index.now.docs }
 {
     index.docs
