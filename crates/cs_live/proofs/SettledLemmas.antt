@@ -7,8 +7,10 @@
 --   settled_is      a state it is
 --   settled_rows    with the rows behind its own
 --   taken, none_settled    rows that wait are brought in; no rows are
+--   settled_keeps, same_keeps    the corpus stays where they are brought in, or wait on
+--   tried_keeps, ok_keeps, ok_later      by what a call answers that brings them in
 use Rattle.std.proofs.Common.{◌≡◌, ℕ, ◌+◌, ◌<◌, ◌≤◌, ◌||◌, Bool, true, false, List, [], ◌∷◌, ◌++◌, length, drop, get_or, map, refl, sym, ap, ap₂, subst, ◌∙◌, arith, append-nil, append_assoc, length-append}
-use Rattle.std.specs.Prelude.{All, filter}
+use Rattle.std.specs.Prelude.{All, Err, Ok, OnErr, OnOk, Result, filter}
 use Rattle.std.specs.List.{AllByRecursion, list_any}
 use Rattle.std.specs.List.Sorted.{IsStrictlySortedBy}
 use Rattle.std.specs.Ordering.{eq_by_cmp, nat_cmp}
@@ -19,7 +21,7 @@ use Rattle.std.proofs.lemmas.Bool.{and_parts}
 use Rattle.std.proofs.lemmas.Bool.Decides.{nat_tests}
 use Rattle.std.proofs.lemmas.Cmp.{nat_list_cmp_total}
 use Rattle.std.proofs.lemmas.List.{get_or-map, length-map, map-append}
-use Rattle.std.proofs.lemmas.List.Elements.{All-append, All-filter, All-from_recursion, All-map, All-weaker, recursion_from_All}
+use Rattle.std.proofs.lemmas.List.Elements.{All-append, All-filter, All-from_recursion, All-map, All-nil, All-weaker, recursion_from_All}
 use Rattle.std.proofs.lemmas.List.Folds.{list_any-append, list_any_at}
 use Rattle.std.proofs.lemmas.Slice.Eq.{bytes_eq-Decides}
 use Rattle.std.proofs.lemmas.Map.Keys.{Less-from_sorted}
@@ -44,10 +46,11 @@ use Rattle.cs_model_index.specs.Partitions.{is_facet}
 use Rattle.cs_model_index.proofs.Listings.{listed_each, listed_few}
 use Rattle.cs_model_index.proofs.NumberedLemmas.{number_below, number_of_word, posts_ascend, rows_of_numbered}
 use Rattle.cs_model_index.proofs.TextLimits.{word_length}
-use Rattle.cs_live.specs.Lives.{AreWaiting, IsGoodRow, IsSettled}
+use Rattle.cs_live.specs.Lives.{AreWaiting, IsGoodRow, IsSettled, KeepsCorpus}
 use Rattle.cs_live.specs.Settling.{AreSettled, HaveWordSize, row_posts, words_met}
 use Rattle.cs_live.specs.States.{IsState, StateView, now_posts, renumbered, source_now, stock_now}
 use Rattle.cs_live.specs.declared.settling.Settled.{Settled}
+use Rattle.cs_live.proofs.BeginningLemmas.{none_waiting}
 use Rattle.cs_live.proofs.NowLemmas.{all_now, new_rises, sorted_behind}
 
 -- ---- numbers through another vocabulary
@@ -339,3 +342,43 @@ none_settled s is rows none = subst (λ rs. IsSettled s rs s) (sym none) (record
   rows = λ b stands. sym (append-nil (rows_at s.words (stock_now s b).posts));
   same = λ e. refl;
 })
+
+-- ---- rows that are brought in, or wait on
+pub settled_keeps : (s : StateView) (rows : List Row) (new : StateView) → IsSettled s rows new → KeepsCorpus s rows new []
+settled_keeps s rows new h = record {
+  is = h.is;
+  waiting = none_waiting new h.is;
+  few = omega arith;
+  index = h.index;
+  present = h.present;
+  added = h.added;
+  words = ap (λ ws. words_met ws []) h.words ∙ met_twice s.words rows [] ∙ ap (words_met s.words) (append-nil rows);
+  rows = λ b stands. append-nil (rows_at new.words (stock_now new b).posts) ∙ h.rows b stands;
+}
+
+pub same_keeps : (s : StateView) → IsState s → (rows : List Row) → AreWaiting s rows → KeepsCorpus s rows s rows
+same_keeps s is rows w = record {
+  is = is;
+  waiting = w;
+  few = omega arith;
+  index = refl;
+  present = refl;
+  added = refl;
+  words = refl;
+  rows = λ b stands. refl;
+}
+
+module _ {X E : Type 0} (s : StateView) (rows : List Row) (new : StateView) (left : List Row) where
+  pub tried_keeps : (r : Result X E) → IsState s → AreWaiting s rows → OnOk r (IsSettled s rows new) → OnOk r (left ≡ []) → OnErr r (new ≡ s) → OnErr r (left ≡ rows)
+      → KeepsCorpus s rows new left
+  tried_keeps (Ok x) is w settled none state same = subst (KeepsCorpus s rows new) (sym none) (settled_keeps s rows new settled)
+  tried_keeps (Err e) is w settled none state same =
+      subst (λ n. KeepsCorpus s rows n left) (sym state) (subst (KeepsCorpus s rows s) (sym same) (same_keeps s is rows w))
+
+  pub ok_keeps : (r : Result X E) → OnOk r (IsSettled s rows new) → OnOk r (left ≡ []) → OnOk r (KeepsCorpus s rows new left)
+  ok_keeps (Ok x) settled none = subst (KeepsCorpus s rows new) (sym none) (settled_keeps s rows new settled)
+  ok_keeps (Err e) settled none = tt
+
+  pub ok_later : (r : Result X E) (d : ℕ) → OnOk r (left ≡ []) → OnOk r (All (λ q. d < q.doc) left)
+  ok_later (Ok x) d none = subst (All (λ (q : Row). d < q.doc)) (sym none) (All-nil (λ (q : Row). d < q.doc))
+  ok_later (Err e) d none = tt

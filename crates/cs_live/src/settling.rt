@@ -1,11 +1,12 @@
 //! Rows of added documents brought into a state: one vocabulary of all words, and one list of rows in memory.
-ghost use Rattle.std.specs.Prelude.{◌≡◌, ◌≤◌, ◌<◌, ◌++◌, [], length, map, slice_index_or, IfOk, OnErr, OnOk};
-ghost use Rattle.std.specs.List.{All};
+ghost use Rattle.std.specs.Prelude.{◌≡◌, ◌≤◌, ◌<◌, ◌++◌, [], true, length, map, slice_index_or, IfOk, OnErr, OnOk};
+ghost use Rattle.std.specs.List.{All, Sorted.{IsStrictlySortedBy}};
+ghost use Rattle.cs_base.specs.content.Orders.{by_spot};
 ghost use Rattle.cs_base.specs.declared.content.limits.TheConstants.{MAX_ROWS, MAX_WORDS};
 ghost use Rattle.cs_merge.specs.Vocabularies.{AreOfWordSize};
 ghost use Rattle.cs_model.specs.Corpus.{distinct_words};
 ghost use Rattle.cs_vocab.specs.Ranges.{AreNumbers};
-ghost use Rattle.cs_live.specs.Lives.{AreWaiting, IsSettled};
+ghost use Rattle.cs_live.specs.Lives.{AreWaiting, IsSettled, KeepsCorpus};
 ghost use Rattle.cs_live.specs.Settling.{AreMergedWith, AreSettled, HaveWordSize, row_posts, words_met};
 ghost use Rattle.cs_live.specs.States.{IsState, renumbered};
 
@@ -15,6 +16,10 @@ use cs_base::{Memory, Post, Row, Seq};
 use cs_merge::{Merging, merged};
 use cs_vocab::{Gathering, Numbered, Vocab};
 use std::alloc::Global;
+
+/// How many rows of added documents may wait behind an addition. So many are few beside the words that there may be: whether those of a
+/// document have room is seen by their number, but where the words are nearly too many.
+const MOST_WAITING: usize = 65_536;
 
 /// What a state has in place of its own, where rows were brought in.
 #[derive(Drop)]
@@ -46,6 +51,56 @@ pub(crate) fn bring_in(alloc: Global, state: &mut State, rows: &mut Vec<Row>) ->
     state.take(alloc, rows)?;
     *rows = Vec::new(alloc);
     Ok(())
+}
+
+/// Brings rows that wait into a state where they are more than `MOST_WAITING`. Where memory runs out, they wait on.
+pub(crate) fn bring_many_in(alloc: Global, state: &mut State, rows: &mut Vec<Row>)
+    requires is { IsState state.old }
+    requires waiting { AreWaiting state.old rows.old.items }
+    requires few { length rows.old.items ≤ MAX_ROWS }
+    requires few_words { length (words_met state.old.words rows.old.items) ≤ MAX_WORDS }
+
+    ensures { KeepsCorpus state.old rows.old.items state.new rows.new.items }
+{
+    if rows.len() <= MOST_WAITING {
+        return;
+    }
+    let _ = bring_in(alloc, state, rows);
+}
+
+/// Brings rows that wait into a state where those of a document may be among them. Where memory runs out, nothing changes.
+pub(crate) fn bring_own_in(
+    alloc: Global,
+    state: &mut State,
+    rows: &mut Vec<Row>,
+    doc: u32,
+) -> Result<(), Memory>
+    requires is { IsState state.old }
+    requires waiting { AreWaiting state.old rows.old.items }
+    requires few { length rows.old.items ≤ MAX_ROWS }
+    requires few_words { length (words_met state.old.words rows.old.items) ≤ MAX_WORDS }
+
+    ensures ok { OnOk result (KeepsCorpus state.old rows.old.items state.new rows.new.items) }
+    ensures later { OnOk result (All (λ r. doc < r.doc) rows.new.items) }
+    ensures state { OnErr result (state.new ≡ state.old) }
+    ensures rows { OnErr result (rows.new.items ≡ rows.old.items) }
+{
+    if are_later(rows, doc) {
+        return Ok(());
+    }
+    bring_in(alloc, state, rows)
+}
+
+// Whether rows in order are of later documents, as their first one is; so are none.
+fn are_later(rows: &[Row], doc: u32) -> bool
+    requires { IsStrictlySortedBy by_spot rows.now }
+
+    ensures { result ≡ true → All (λ r. doc < r.doc) rows.now }
+{
+    if rows.is_empty() {
+        return true;
+    }
+    doc < rows[0].doc
 }
 
 /// Words, numbers of the index's words and rows in memory, with rows brought in behind them.
