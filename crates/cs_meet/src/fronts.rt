@@ -84,26 +84,25 @@ pub(crate) fn put_front(tree: &mut Vec<u128>, lists: usize, number: usize, front
     ensures others { (k : ℕ) → k < lists → k ≢ number → slice_index tree.new.items (lists + k) ≡ slice_index tree.old.items (lists + k) }
 {
     let mut at = lists + number;
-    let mut least = front;
-    tree[at] = least;
+    tree[at] = front;
     while at > 1 {
-        least = lesser(least, tree[beside(at)]);
+        let lesser = lesser_place(tree, at);
         at /= 2;
-        tree[at] = least;
+        tree[at] = tree[lesser];
     }
 }
 
-// The place whose number goes with that at `at` to the one before them.
+// Of a place and the one that goes with it to the place before them, that of the lesser number; where both are equal the first. Which one it
+// is decides no jump, as it couldn't be foreseen.
 #[inline]
-fn beside(at: usize) -> usize
-    ensures { result + 2 * (at % 2) ≡ at + 1 }
-{
-    if at % 2 == 0 { at + 1 } else { at - 1 }
-}
+fn lesser_place(tree: &[u128], at: usize) -> usize
+    requires some { 2 ≤ at }
+    requires pair { 2 * (at / 2) + 1 < length tree.now }
 
-#[inline]
-fn lesser(a: u128, b: u128) -> u128
-    ensures { result ≡ min a b }
+    ensures pair { result / 2 ≡ at / 2 }
+    ensures known { result < length tree.now }
+    ensures least { slice_index tree.now result ≡ min (slice_index tree.now (2 * (at / 2))) (slice_index tree.now (2 * (at / 2) + 1)) }
 {
-    if b < a { b } else { a }
+    let even = 2 * (at / 2);
+    even + usize::from(tree[even + 1] < tree[even])
 }
