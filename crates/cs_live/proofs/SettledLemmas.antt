@@ -197,10 +197,10 @@ module _ (ws own : List (List ℕ)) (second : List ℕ) (up : IsStrictlySortedBy
   rows_known [] (r ∷ rows) e l = no_rows_left _ r.word (map (λ r. r.word) rows) e
   rows_known (n ∷ ns) (r ∷ rows) e l = (has_here n r.word l.0 (ap (λ x. get_or x 0 []) e), rows_known ns rows (ap (drop 1) e) l.1)
 
-pub brought : (words : List (List ℕ)) (shift : List ℕ) (held : List Post) (rows : List Row) (own : List (List ℕ)) (ns : List ℕ) (m : Merging) (s : Settled) → AreMerged words own m → own ≡ distinct_words rows
+pub brought : (words : List (List ℕ)) (shift : List ℕ) (held : List Post) (rows : List Row) (own : List (List ℕ)) (ns : List ℕ) (m : Merging) (s : Settled) (new : List Post) → AreMerged words own m → own ≡ distinct_words rows
     → AreNumbers own ns (map (λ r. r.word) rows) → s.words ≡ m.words.items → s.shift.items ≡ map (λ n. get_or m.first.items n 0) shift
-    → s.held.items ≡ map (renumbered m.first.items) held ++ row_posts m.second.items ns rows → AreSettled words shift held rows s
-brought words shift held rows own ns m s h own_is numbers same shift_is held_is =
+    → new ≡ map (renumbered m.first.items) held ++ row_posts m.second.items ns rows → AreSettled words shift held rows s new
+brought words shift held rows own ns m s new h own_is numbers same shift_is held_is =
     let below = recursion_from_All (IsBelow (length own)) ns numbers.below in
     record {
       first = m.first.items;
@@ -213,12 +213,13 @@ brought words shift held rows own ns m s h own_is numbers same shift_is held_is 
     }
 
 -- ---- the state behind
-abbrev pub settled_state : StateView → Settled → StateView
-settled_state s m = record { index = s.index; words = m.words; shift = m.shift.items; present = s.present; whole = s.whole; held = m.held.items; added = s.added }
+abbrev pub settled_state : StateView → Settled → List Post → StateView
+settled_state s m held = record { index = s.index; words = m.words; shift = m.shift.items; present = s.present; whole = s.whole; held = held; added = s.added }
 
-module _ (s : StateView) (is : IsState s) (rows : List Row) (w : AreWaiting s rows) (m : Settled) (h : AreSettled s.words s.shift s.held rows m) where
+module _ (s : StateView) (is : IsState s) (rows : List Row) (w : AreWaiting s rows) (m : Settled) (held : List Post)
+    (h : AreSettled s.words s.shift s.held rows m held) where
   abbrev new : StateView
-  new = settled_state s m
+  new = settled_state s m held
 
   abbrev own : List Post
   own = numbered m.words rows
@@ -262,7 +263,7 @@ module _ (s : StateView) (is : IsState s) (rows : List Row) (w : AreWaiting s ro
   rises : IsStrictlySortedBy (slice_cmp nat_cmp) m.words
   rises = subst (IsStrictlySortedBy (slice_cmp nat_cmp)) (sym h.all) (met_rises s.words rows)
 
-  pub settled_is : length (words_met s.words rows) ≤ MAX_WORDS → IsState (settled_state s m)
+  pub settled_is : length (words_met s.words rows) ≤ MAX_WORDS → IsState (settled_state s m held)
   settled_is few =
       let rec : AllByRecursion (λ r. w.from ≤ r.doc) rows = recursion_from_All (λ r. w.from ≤ r.doc) rows w.rows_from in
       let behind = w.behind in
@@ -294,7 +295,7 @@ module _ (s : StateView) (is : IsState s) (rows : List Row) (w : AreWaiting s ro
         titles = is.titles;
       }
 
-  pub settled_rows : (b : List ℕ) → StandsFor b s.index → rows_at m.words (stock_now (settled_state s m) b).posts ≡ rows_at s.words (stock_now s b).posts ++ rows
+  pub settled_rows : (b : List ℕ) → StandsFor b s.index → rows_at m.words (stock_now (settled_state s m held) b).posts ≡ rows_at s.words (stock_now s b).posts ++ rows
   settled_rows b stands =
       let old = (stock_of b).posts in
       let long = is.shift.long in
@@ -314,19 +315,20 @@ module _ (s : StateView) (is : IsState s) (rows : List Row) (w : AreWaiting s ro
       ∙ ap (λ xs. xs ++ rows) (sym (map-append (row_of s.words) now s.held))
 
 -- where the state's own parts were handed on
-pub taken : (s now : StateView) → s ≡ now → IsState now → (rows : List Row) → AreWaiting now rows → (shift : List ℕ) → shift ≡ s.shift → (held : List Post) → held ≡ s.held
-    → (m : Settled) → AreSettled s.words shift held rows m → length (words_met now.words rows) ≤ MAX_WORDS → 1 ≤ length rows → IsSettled now rows (settled_state s m)
-taken s now same is rows w shift shift_is held held_is m h few some =
-    let own : AreSettled now.words now.shift now.held rows m = subst (λ x. AreSettled x.words x.shift x.held rows m) same
-    (subst (λ ps. AreSettled s.words s.shift ps rows m) held_is (subst (λ ns. AreSettled s.words ns held rows m) shift_is h)) in
-    subst (λ x. IsSettled now rows (settled_state x m)) (sym same) (record {
-      is = settled_is now is rows w m own few;
+pub taken : (s now : StateView) → s ≡ now → IsState now → (rows : List Row) → AreWaiting now rows → (shift : List ℕ) → shift ≡ s.shift
+    → (m : Settled) (new_held : List Post) → AreSettled s.words shift s.held rows m new_held → length (words_met now.words rows) ≤ MAX_WORDS → 1 ≤ length rows
+    → IsSettled now rows (settled_state s m new_held)
+taken s now same is rows w shift shift_is m new_held h few some =
+    let own : AreSettled now.words now.shift now.held rows m new_held = subst (λ x. AreSettled x.words x.shift x.held rows m new_held) same
+    (subst (λ ns. AreSettled s.words ns s.held rows m new_held) shift_is h) in
+    subst (λ x. IsSettled now rows (settled_state x m new_held)) (sym same) (record {
+      is = settled_is now is rows w m new_held own few;
       index = refl;
       present = refl;
       whole = refl;
       added = refl;
       words = own.all;
-      rows = settled_rows now is rows w m own;
+      rows = settled_rows now is rows w m new_held own;
       same = λ none. absurd (let e = ap length none in omega (arith, e, some));
     })
 

@@ -68,8 +68,8 @@ fn drop_gone(whole: bool, present: &[bool], posts: &mut Vec<Post>)
     posts.retain(|post| is_set(present, post.doc));
 }
 
-// Gives rows the numbers that their words have now.
-fn renumber_rows(own: bool, shift: &[u32], posts: &mut [Post])
+/// Gives rows the numbers that their words have among more words. Where they have their own, nothing is done.
+pub(crate) fn renumber_rows(own: bool, shift: &[u32], posts: &mut [Post])
     requires words { All (λ p. p.word < length shift.now) posts.old }
     requires own { own ≡ true → AreOwnNumbers shift.now }
 
@@ -83,9 +83,9 @@ fn renumber_rows(own: bool, shift: &[u32], posts: &mut [Post])
     }
 }
 
-/// A row of the index with the number that its word has now.
+// A row with the number that its word has among more words.
 #[inline]
-pub(crate) fn renumbered(shift: &[u32], post: Post) -> Post
+fn renumbered(shift: &[u32], post: Post) -> Post
     requires { post.word < length shift.now }
 
     ensures { result ≡ renumbered shift.now post }

@@ -116,16 +116,15 @@ impl State {
         ensures ok { OnOk result (IsSettled self.old rows.now self.new) }
         ensures err { OnErr result (self.new ≡ self.old) }
     {
-        let Settled { words, shift, held } = brought_in(
+        let Settled { words, shift } = brought_in(
             alloc,
             &self.words,
             &self.shift,
-            &self.held,
+            &mut self.held,
             rows,
         )?;
         self.words = words;
         self.shift = shift;
-        self.held = held;
         Ok(())
     }
 }
