@@ -1,15 +1,16 @@
 -- What is read of a block or a title, as it is now.
 --
+--   fetched_by, scored_by    what is fetched by parts that are a state's own
 --   fetched_ranged, fetched_sought, fetched_stood    the posts of a block that are sought
---   scored_even, scored_docs, scored_words, scored_scores, scored_stood    its documents, words and scores
+--   scored_words_even, scored_scores_even, scored_docs, scored_words, scored_scores, scored_stood    its documents, words and scores
 --   title_none, title_new, title_old, title_stood     a title
 use Rattle.std.proofs.Common.{◌≡◌, ℕ, ◌+◌, ◌-◌, ◌<◌, ◌≤◌, ◌&&◌, Bool, true, false, true≢false, List, [], ◌∷◌, ◌++◌, length, get_or, take, map, Option, Some}
-use Rattle.std.proofs.Common.{cond, refl, sym, ap, ap₂, subst, ◌∙◌, arith, append-nil, get_or-take, inl, inr}
+use Rattle.std.proofs.Common.{refl, sym, ap, ap₂, subst, ◌∙◌, arith, get_or-take, inl, inr}
 use Rattle.std.specs.Prelude.{All, filter, IfOk, Result, Ok, Err}
 use Rattle.std.specs.List.{AllByRecursion}
 use Rattle.std.specs.Str.{is_utf8}
 use Rattle.std.proofs.lemmas.Bool.{cases_lt}
-use Rattle.std.proofs.lemmas.List.{get_or_append_left, get_or-append_right, get_or-map, length-map, map-append, take_all, take_more}
+use Rattle.std.proofs.lemmas.List.{get_or_append_left, get_or-append_right, length-map}
 use Rattle.std.proofs.lemmas.List.Elements.{All-from_recursion, All-map, All-weaker, recursion_from_All}
 use Rattle.std.proofs.lemmas.Str.{IsUtf8-nil, is_utf8-from_IsUtf8}
 use Rattle.cs_base.specs.declared.content.doc.Post.{Post}
@@ -25,9 +26,9 @@ use Rattle.cs_engine.specs.Stocked.{title_at}
 use Rattle.cs_engine.proofs.OpenedLemmas.{opened_title}
 use Rattle.cs_engine.proofs.ReplyLemmas.{titled}
 use Rattle.cs_engine.proofs.StockLemmas.{docs_are, within_block}
-use Rattle.cs_live.specs.States.{AreScoredNow, IsFetched, IsScoredNow, IsState, IsTitle, StateView, now_posts, rank, renumbered, source_now, stock_now}
+use Rattle.cs_live.specs.States.{IsFetched, IsScoredNow, IsState, IsTitle, StateView, now_posts, rank, renumbered, source_now, stock_now}
 use Rattle.cs_live.proofs.NumberLemmas.{known_word}
-use Rattle.cs_live.proofs.NowLemmas.{all_now, between_now, chosen_now, get_map, now_append}
+use Rattle.cs_live.proofs.NowLemmas.{all_now, between_now, chosen_now, get_map}
 use Rattle.cs_live.proofs.PresentTitles.{title_gone, title_there}
 
 module _ (s : StateView) (is : IsState s) where
@@ -115,24 +116,30 @@ module _ (s : StateView) (is : IsState s) where
         score_to = w.score_to;
       }) h
 
--- what a fetch by the state's own parts gives
-module _ (s : StateView) (is : IsState s) {i : IndexView} {told : Option (List ℕ)} {k lo hi : ℕ} {shift : List ℕ} {present listed : List Bool} {posts : List Post}
+-- what a fetch by a state's own parts gives
+module _ (s : StateView) {i : IndexView} {told : Option (List ℕ)} {k : ℕ} {shift : List ℕ} {present : List Bool}
     (index_is : i ≡ s.index) (shift_is : shift ≡ s.shift) (present_is : present ≡ s.present) where
-  own : IsFetched i told k shift present lo hi listed posts → IsFetched s.index told k s.shift s.present lo hi listed posts
-  own h = subst (λ x. IsFetched s.index told k s.shift x lo hi listed posts) present_is
+  pub fetched_by : {lo hi : ℕ} {listed : List Bool} {posts : List Post} → IsFetched i told k shift present lo hi listed posts
+      → IsFetched s.index told k s.shift s.present lo hi listed posts
+  fetched_by {lo} {hi} {listed} {posts} h = subst (λ x. IsFetched s.index told k s.shift x lo hi listed posts) present_is
       (subst (λ x. IsFetched s.index told k x present lo hi listed posts) shift_is
       (subst (λ x. IsFetched x told k shift present lo hi listed posts) index_is h))
 
-  pub fetched_ranged : IsFetched i told k shift present lo hi listed posts → All (IsRanged (seen (source_now s))) posts
-  fetched_ranged h = let f = own h in subst (All (IsRanged (seen (source_now s)))) (sym f.now) (ranged_now s is f.read f.ranged)
+  pub scored_by : {f : Fetched} → IsScoredNow i told k shift present f → IsScoredNow s.index told k s.shift s.present f
+  scored_by {f} h = subst (λ x. IsScoredNow s.index told k s.shift x f) present_is
+      (subst (λ x. IsScoredNow s.index told k x present f) shift_is
+      (subst (λ x. IsScoredNow x told k shift present f) index_is h))
 
-  pub fetched_sought : IsFetched i told k shift present lo hi listed posts → All (λ p. is_chosen lo hi listed p ≡ true) posts
-  fetched_sought h = let f = own h in subst (All (λ p. is_chosen lo hi listed p ≡ true)) (sym f.now) (sought_now s is lo hi listed f.read f.ranged f.sought)
+module _ (s : StateView) (is : IsState s) {told : Option (List ℕ)} {k lo hi : ℕ} {listed : List Bool} {posts : List Post} where
+  pub fetched_ranged : IsFetched s.index told k s.shift s.present lo hi listed posts → All (IsRanged (seen (source_now s))) posts
+  fetched_ranged f = subst (All (IsRanged (seen (source_now s)))) (sym f.now) (ranged_now s is f.read f.ranged)
 
-  pub fetched_stood : (b : List ℕ) → told ≡ Some b → StandsFor b s.index → k < length s.index.heads → IsFetched i told k shift present lo hi listed posts
+  pub fetched_sought : IsFetched s.index told k s.shift s.present lo hi listed posts → All (λ p. is_chosen lo hi listed p ≡ true) posts
+  fetched_sought f = subst (All (λ p. is_chosen lo hi listed p ≡ true)) (sym f.now) (sought_now s is lo hi listed f.read f.ranged f.sought)
+
+  pub fetched_stood : (b : List ℕ) → told ≡ Some b → StandsFor b s.index → k < length s.index.heads → IsFetched s.index told k s.shift s.present lo hi listed posts
       → posts ≡ filter (is_chosen lo hi listed) (get_or (map (now_posts s.shift s.present) (image_of b).blocks) k [])
-  fetched_stood b tells stands lt h =
-      let f = own h in f.now ∙ stood_now s is b stands lo hi listed f.read k lt (f.stood b tells stands)
+  fetched_stood b tells stands lt f = f.now ∙ stood_now s is b stands lo hi listed f.read k lt (f.stood b tells stands)
 
 -- the same of documents, words and scores
 record Columns (s : StateView) (f : Fetched) : Type 0 where
@@ -140,16 +147,9 @@ record Columns (s : StateView) (f : Fetched) : Type 0 where
   within : All (IsWithin (length s.present) (length s.words)) posts
   are : AreScoredOf posts f.docs.items f.words.items f.scores.items
 
-module _ (s : StateView) (is : IsState s) {i : IndexView} {told : Option (List ℕ)} {k : ℕ} {shift : List ℕ} {present : List Bool} {f : Fetched}
-    (index_is : i ≡ s.index) (shift_is : shift ≡ s.shift) (present_is : present ≡ s.present) where
-  own_scored : IsScoredNow i told k shift present f → IsScoredNow s.index told k s.shift s.present f
-  own_scored h = subst (λ x. IsScoredNow s.index told k s.shift x f) present_is
-      (subst (λ x. IsScoredNow s.index told k x present f) shift_is
-      (subst (λ x. IsScoredNow x told k shift present f) index_is h))
-
-  columns_of : IsScoredNow i told k shift present f → Columns s f
-  columns_of h =
-      let o = own_scored h in
+module _ (s : StateView) (is : IsState s) {told : Option (List ℕ)} {k : ℕ} {f : Fetched} where
+  columns_of : IsScoredNow s.index told k s.shift s.present f → Columns s f
+  columns_of o =
       let read = columns_posts s is o.docs o.words o.scores in
       record {
         posts = now_posts s.shift s.present read;
@@ -160,106 +160,40 @@ module _ (s : StateView) (is : IsState s) {i : IndexView} {told : Option (List �
         are = o.now read (columns_are s is o.docs o.words o.scores o.words_even o.scores_even);
       }
 
-  pub scored_words_even : IsScoredNow i told k shift present f → length f.words.items ≡ length f.docs.items
+  pub scored_words_even : IsScoredNow s.index told k s.shift s.present f → length f.words.items ≡ length f.docs.items
   scored_words_even h =
       let c = columns_of h in
       ap length c.are.0.1 ∙ length-map c.posts (λ (p : Post). p.word) ∙ sym (ap length c.are.0.0 ∙ length-map c.posts (λ (p : Post). p.doc))
 
-  pub scored_scores_even : IsScoredNow i told k shift present f → length f.scores.items ≡ length f.docs.items
+  pub scored_scores_even : IsScoredNow s.index told k s.shift s.present f → length f.scores.items ≡ length f.docs.items
   scored_scores_even h =
       let c = columns_of h in
       ap length c.are.1 ∙ length-map c.posts (λ (p : Post). p.score) ∙ sym (ap length c.are.0.0 ∙ length-map c.posts (λ (p : Post). p.doc))
 
-  pub scored_docs : IsScoredNow i told k shift present f → All (λ d. d < length s.present) f.docs.items
+  pub scored_docs : IsScoredNow s.index told k s.shift s.present f → All (λ d. d < length s.present) f.docs.items
   scored_docs h =
       let c = columns_of h in
       subst (All (λ d. d < length s.present)) (sym c.are.0.0) (All-map (λ d. d < length s.present) (λ (p : Post). p.doc) c.posts
       (All-weaker (IsWithin (length s.present) (length s.words)) (λ p. p.doc < length s.present) (λ p w. w.doc) c.posts c.within))
 
-  pub scored_words : IsScoredNow i told k shift present f → All (λ w. w < length s.words) f.words.items
+  pub scored_words : IsScoredNow s.index told k s.shift s.present f → All (λ w. w < length s.words) f.words.items
   scored_words h =
       let c = columns_of h in
       subst (All (λ w. w < length s.words)) (sym c.are.0.1) (All-map (λ w. w < length s.words) (λ (p : Post). p.word) c.posts
       (All-weaker (IsWithin (length s.present) (length s.words)) (λ p. p.word < length s.words) (λ p w. w.word) c.posts c.within))
 
-  pub scored_scores : IsScoredNow i told k shift present f → All (λ x. (1 ≤ x) × (x ≤ MAX_ROW_SCORE)) f.scores.items
+  pub scored_scores : IsScoredNow s.index told k s.shift s.present f → All (λ x. (1 ≤ x) × (x ≤ MAX_ROW_SCORE)) f.scores.items
   scored_scores h =
       let c = columns_of h in
       subst (All (λ x. (1 ≤ x) × (x ≤ MAX_ROW_SCORE))) (sym c.are.1) (All-map (λ x. (1 ≤ x) × (x ≤ MAX_ROW_SCORE)) (λ (p : Post). p.score) c.posts
       (All-weaker (IsWithin (length s.present) (length s.words)) (λ p. (1 ≤ p.score) × (p.score ≤ MAX_ROW_SCORE)) (λ p w. (w.score_from, w.score_to)) c.posts
       c.within))
 
-  pub scored_stood : (b : List ℕ) → told ≡ Some b → StandsFor b s.index → IsScoredNow i told k shift present f
+  pub scored_stood : (b : List ℕ) → told ≡ Some b → StandsFor b s.index → IsScoredNow s.index told k s.shift s.present f
       → AreScoredOf (get_or (map (now_posts s.shift s.present) (image_of b).blocks) k []) f.docs.items f.words.items f.scores.items
-  scored_stood b tells stands h =
-      let o = own_scored h in
+  scored_stood b tells stands o =
       subst (λ ps. AreScoredOf ps f.docs.items f.words.items f.scores.items) (sym (get_map (now_posts s.shift s.present) refl (image_of b).blocks k))
       (o.now (block_posts b k) (o.stood b tells stands))
-
--- ---- rows one after the other
-module _ (shift : List ℕ) (present : List Bool) (docs words scores : List ℕ) where
-  -- what is kept of the first rows
-  pub AreFirst : ℕ → List ℕ → List ℕ → List ℕ → Type 0
-  AreFirst i kept_docs kept_words kept_scores =
-      (posts : List Post) → AreScoredOf posts docs words scores → AreScoredOf (now_posts shift present (take i posts)) kept_docs kept_words kept_scores
-
-  pub none_first : AreFirst 0 [] [] []
-  unfolding AreFirst
-  none_first posts are = ((refl, refl), refl)
-
-  blank : Post
-  blank = record { doc = 0; word = 0; pos = 0; score = 0 }
-
-  one_more : (posts : List Post) (i : ℕ) → i < length posts
-      → now_posts shift present (take (i + 1) posts) ≡ now_posts shift present (take i posts) ++ now_posts shift present (get_or posts i blank ∷ [])
-  one_more posts i lt = ap (now_posts shift present) (take_more posts i blank lt) ∙ now_append shift present (take i posts) (get_or posts i blank ∷ [])
-
-  column_at : (f : Post → ℕ) (posts : List Post) (column : List ℕ) (i : ℕ) → i < length posts → column ≡ map f posts → get_or column i 0 ≡ f (get_or posts i blank)
-  column_at f posts column i lt are = ap (λ xs. get_or xs i 0) are ∙ get_or-map f posts i blank 0 lt
-
-  pub row_kept : (i : ℕ) (kd kw ks nd nw ns : List ℕ) → i < length docs → get_or present (get_or docs i 0) false ≡ true
-      → nd ≡ kd ++ get_or docs i 0 ∷ [] → nw ≡ kw ++ get_or shift (get_or words i 0) 0 ∷ [] → ns ≡ ks ++ get_or scores i 0 ∷ []
-      → AreFirst i kd kw ks → AreFirst (i + 1) nd nw ns
-  unfolding AreFirst
-  row_kept i kd kw ks nd nw ns lt there d w x first posts are =
-      let long = ap length are.0.0 ∙ length-map posts (λ (p : Post). p.doc) in
-      let inside : i < length posts = omega (arith, lt, long) in
-      let p = get_or posts i blank in
-      let doc = column_at (λ p. p.doc) posts docs i inside are.0.0 in
-      let word = column_at (λ p. p.word) posts words i inside are.0.1 in
-      let score = column_at (λ p. p.score) posts scores i inside are.1 in
-      let here : now_posts shift present (p ∷ []) ≡ renumbered shift p ∷ [] =
-      ap (λ b. map (renumbered shift) (cond b (p ∷ []) [])) (ap (λ n. get_or present n false) (sym doc) ∙ there) in
-      let all : now_posts shift present (take (i + 1) posts) ≡ now_posts shift present (take i posts) ++ renumbered shift p ∷ [] =
-      one_more posts i inside ∙ ap (λ l. now_posts shift present (take i posts) ++ l) here in
-      let old = first posts are in
-      let before = now_posts shift present (take i posts) in (
-        (
-          d ∙ ap₂ (λ l n. l ++ n ∷ []) old.0.0 doc ∙ sym (map-append (λ p. p.doc) before (renumbered shift p ∷ [])) ∙ sym (ap (map (λ p. p.doc)) all),
-          w ∙ ap₂ (λ l n. l ++ get_or shift n 0 ∷ []) old.0.1 word ∙ sym (map-append (λ p. p.word) before (renumbered shift p ∷ [])) ∙ sym (ap (map (λ p. p.word)) all),
-        ),
-        x ∙ ap₂ (λ l n. l ++ n ∷ []) old.1 score ∙ sym (map-append (λ p. p.score) before (renumbered shift p ∷ [])) ∙ sym (ap (map (λ p. p.score)) all),
-      )
-
-  pub row_gone : (i : ℕ) (kd kw ks : List ℕ) → i < length docs → get_or present (get_or docs i 0) false ≡ false
-      → AreFirst i kd kw ks → AreFirst (i + 1) kd kw ks
-  unfolding AreFirst
-  row_gone i kd kw ks lt gone first posts are =
-      let long = ap length are.0.0 ∙ length-map posts (λ (p : Post). p.doc) in
-      let inside : i < length posts = omega (arith, lt, long) in
-      let p = get_or posts i blank in
-      let doc = column_at (λ p. p.doc) posts docs i inside are.0.0 in
-      let here : now_posts shift present (p ∷ []) ≡ [] =
-      ap (λ b. map (renumbered shift) (cond b (p ∷ []) [])) (ap (λ n. get_or present n false) (sym doc) ∙ gone) in
-      let all : now_posts shift present (take (i + 1) posts) ≡ now_posts shift present (take i posts) =
-      one_more posts i inside ∙ ap (λ l. now_posts shift present (take i posts) ++ l) here ∙ append-nil (now_posts shift present (take i posts)) in
-      subst (λ ps. AreScoredOf ps kd kw ks) (sym all) (first posts are)
-
-  pub all_first : (i : ℕ) (kd kw ks : List ℕ) → length docs ≤ i → AreFirst i kd kw ks → AreScoredNow shift present docs words scores kd kw ks
-  unfolding AreFirst
-  all_first i kd kw ks le first posts are =
-      let long = ap length are.0.0 ∙ length-map posts (λ (p : Post). p.doc) in
-      subst (λ ps. AreScoredOf (now_posts shift present ps) kd kw ks) (take_all i posts (omega (arith, le, long))) (first posts are)
 
 -- ---- titles
 pub title_none : (i : IndexView) (told : Option (List ℕ)) (present : List Bool) (added : List (List ℕ)) (d : ℕ) (t : List ℕ) → get_or present d false ≡ false → t ≡ [] → IsTitle i told present added d t

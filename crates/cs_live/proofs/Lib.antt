@@ -3,6 +3,7 @@ pub mod NowLemmas
 pub mod PresentTitles
 pub mod StateLemmas
 pub mod FetchedLemmas
+pub mod RowsInPlace
 pub mod BeginningLemmas
 pub mod RemovedLemmas
 pub mod SettledLemmas

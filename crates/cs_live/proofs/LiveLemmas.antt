@@ -2,6 +2,7 @@
 --
 --   kept_begins       before the first change
 --   settled_*         rows that waited brought in: what is kept and held stays right
+--   still_*           rows that wait on, or are brought in
 --   added_*           a document that is added
 --   removed_*         a document that is deleted
 use Rattle.std.proofs.Common.{◌≡◌, ℕ, zero, suc, ◌+◌, ◌<◌, ◌≤◌, Bool, true, false, true≢false, cond, not, List, [], ◌∷◌, ◌++◌, length, get_or, set, replicate}
@@ -14,7 +15,7 @@ use Rattle.std.specs.Cmp.Lexicographic.{slice_cmp}
 use Rattle.std.specs.Str.{is_utf8}
 use Rattle.std.proofs.lemmas.Cmp.{nat_list_cmp_total}
 use Rattle.std.proofs.lemmas.List.{length-set}
-use Rattle.std.proofs.lemmas.List.Elements.{All-nil}
+use Rattle.std.proofs.lemmas.List.Elements.{All-nil, filter-append}
 use Rattle.std.proofs.lemmas.List.Sums.{sum_by-set, sum_by_push}
 use Rattle.std.proofs.lemmas.Map.Lookups.{exact_bytes}
 use Rattle.cs_base.specs.content.Members.{members_in}
@@ -36,12 +37,11 @@ use Rattle.cs_model_changes.specs.Changes.{Change, Changing, added, applied, del
 use Rattle.cs_model_index.specs.Numbered.{rows_at}
 use Rattle.cs_model_index.specs.Sections.{file_corpus, image_of}
 use Rattle.cs_model_index.proofs.Listings.{listed_few}
-use Rattle.cs_live.specs.Lives.{AreGoodNow, IsOnlyDoc, HasAdded, IsBehind, IsLiveKept, IsLiveState, IsRemoved, IsSettled, LiveView, changing, own_rows}
+use Rattle.cs_live.specs.Lives.{AreGoodNow, IsOnlyDoc, HasAdded, IsBehind, IsLiveKept, IsLiveState, IsRemoved, IsSettled, KeepsCorpus, LiveView, changing, own_rows}
 use Rattle.cs_live.specs.Settling.{words_met}
 use Rattle.cs_live.specs.States.{IsState, StateView, opened_state, source_now, stock_now, titles_now, with_title, without_doc}
 use Rattle.cs_live.proofs.AddingLemmas.{rows_more, titled_is, titled_posts, waiting_more}
-use Rattle.cs_live.proofs.RemovedLemmas.{without_is, without_rows, without_titles}
-use Rattle.cs_live.proofs.SettledLemmas.{met_twice}
+use Rattle.cs_live.proofs.RemovedLemmas.{later_stay, later_waiting, without_is, without_rows, without_titles}
 use Rattle.cs_live.proofs.StateLemmas.{titles_long}
 use Rattle.cs_live.proofs.PresentTitles.{titled_more}
 use Rattle.cs_live.proofs.BeginningLemmas.{none_waiting, opened_is}
@@ -178,104 +178,131 @@ module _ (l : LiveView) (k : IsLiveKept l) (new : StateView) (h : IsSettled l.st
 pub behind_now : (b : List ℕ) (cs : List Change) (l : LiveView) → IsBehind b cs l → (changing l b).corpus ≡ now l.state.index.weights (file_corpus b) cs
 behind_now b cs l h = ap (λ (c : Changing). c.corpus) (sym h.corpus)
 
+-- ---- rows that wait on, or are brought in
+module _ (s : StateView) (waited : List Row) (new : StateView) (left : List Row) (h : KeepsCorpus s waited new left) where
+  still_live : (met : ℕ) → IsLiveState s waited met → IsLiveState new left met
+  still_live met live =
+      let fewer = h.few in
+      let few = live.few in
+      let words = ap length h.words in
+      let few_words = live.few_words in
+      record {
+        state = h.is;
+        waiting = h.waiting;
+        few = omega (arith, fewer, few);
+        few_rows = live.few_rows;
+        few_words = omega (arith, words, few_words);
+      }
+
+  still_titled : (b : List ℕ) → (stock_now new b).titles ≡ (stock_now s b).titles
+  still_titled b = ap₂ (λ ps ts. titles_now ps ((image_of b).titles ++ ts)) h.present h.added
+
 -- ---- one document more
-module _ (l : LiveView) (k : IsLiveKept l) (doc : Doc) (a : IsOnlyDoc l.state.index.weights doc) (m : LiveView) (t : List ℕ) (n : ℕ)
-    (title : t ≡ doc.title) (state : m.state ≡ with_title l.state t) (rows : m.rows ≡ l.rows ++ own_rows l doc) (met : m.met ≡ l.met + length (own_rows l doc))
-    (changes : m.changes ≡ l.changes + 1) (none_a : m.answers ≡ answer_list [] n) (none_h : m.held ≡ []) where
+module _ (l : LiveView) (k : IsLiveKept l) (doc : Doc) (a : IsOnlyDoc l.state.index.weights doc) (t : List ℕ) (s : StateView) (waited : List Row) (met : ℕ)
+    (title : t ≡ doc.title) (state : s ≡ with_title l.state t) (rows : waited ≡ l.rows ++ own_rows l doc) (many : met ≡ l.met + length (own_rows l doc)) where
   abbrev own : List Row
   own = own_rows l doc
 
-  pub added_kept : length l.state.present < MAX_DOCS → is_utf8 t ≡ true → l.met + length (own_rows l doc) ≤ MAX_ROWS → length (words_met l.state.words (l.rows ++ own_rows l doc)) ≤ MAX_WORDS → IsLiveKept m
-  added_kept few text few_rows few_words =
+  pub added_live : length l.state.present < MAX_DOCS → is_utf8 t ≡ true → l.met + length (own_rows l doc) ≤ MAX_ROWS
+      → length (words_met l.state.words (l.rows ++ own_rows l doc)) ≤ MAX_WORDS → IsLiveState s waited met
+  added_live few text few_rows few_words =
       let live = k.live in
       let of_state : IsState (with_title l.state t) = titled_is l.state live.state t few text in
       let both = length-append l.rows own in
       let old = live.few in
-      record {
-        live = subst (λ s. IsLiveState s m.rows m.met) (sym state) (subst (λ rs. IsLiveState (with_title l.state t) rs m.met) (sym rows) (record {
-          state = of_state;
-          waiting = waiting_more l.state live.state t l.rows live.waiting doc a;
-          few = omega (arith, both, old, met);
-          few_rows = omega (arith, few_rows, met);
-          few_words = few_words;
-        }));
-        counted = (let counted = k.counted in
-            let all = ap₂ (λ a ps. a + count_by not ps) (ap (λ (s : StateView). length s.added) state ∙ length-append l.state.added (t ∷ []))
-            (ap (λ (s : StateView). s.present) state) in
-            let same = there_more l.state.present in
-            omega (arith, changes, counted, all, same));
-        fresh = inr (ap (λ (x : AnswerList). x.entries) none_a, none_h);
-        answers = empty_kept m.state m.answers n none_a;
-        held = empty_held m.state m.held none_h;
-      }
+      subst (λ x. IsLiveState x waited met) (sym state) (subst (λ rs. IsLiveState (with_title l.state t) rs met) (sym rows) (record {
+        state = of_state;
+        waiting = waiting_more l.state live.state t l.rows live.waiting doc a;
+        few = omega (arith, both, old, many);
+        few_rows = omega (arith, few_rows, many);
+        few_words = few_words;
+      }))
 
-  added_corpus : (b : List ℕ) → StandsFor b l.state.index → changing m b ≡ applied l.state.index.weights (changing l b) (added doc)
-  added_corpus b stands =
-      let live = k.live in
-      let s = l.state in
-      let ts = (image_of b).titles in
-      let posts = (stock_now s b).posts in
-      let titles : (stock_now m.state b).titles ≡ insert (stock_now s b).titles (length s.present) doc.title =
-      ap (λ (x : StateView). (stock_now x b).titles) state ∙ ap (titles_now (s.present ++ true ∷ [])) (sym (append_assoc ts s.added (t ∷ [])))
-      ∙ titled_more s.present (ts ++ s.added) t (titles_long s live.state b stands) ∙ ap (insert (stock_now s b).titles (length s.present)) title in
-      let all : rows_at m.state.words (stock_now m.state b).posts ++ m.rows
-      ≡ members_in by_row ((rows_at s.words posts ++ l.rows) ++ doc_rows s.index.weights (length s.present, doc)) =
-      ap₂ (λ (x : StateView) rs. rows_at x.words (stock_now x b).posts ++ rs) state rows
-      ∙ ap (λ ps. rows_at s.words ps ++ (l.rows ++ own)) (titled_posts s live.state t b stands)
-      ∙ sym (append_assoc (rows_at s.words posts) l.rows own)
-      ∙ rows_more s live.state t l.rows live.waiting doc a b stands in
-      let next : length m.state.present ≡ length s.present + 1 = ap (λ (x : StateView). length x.present) state ∙ length-append s.present (true ∷ []) in
-      λ j. record { corpus = record { titles = titles j; rows = all j }; next = next j }
+  module _ (m : LiveView) (n : ℕ) (h : KeepsCorpus s waited m.state m.rows) (same : m.met ≡ met) (changes : m.changes ≡ l.changes + 1)
+      (none_a : m.answers ≡ answer_list [] n) (none_h : m.held ≡ []) where
+    pub added_kept : IsLiveState s waited met → IsLiveKept m
+    added_kept live = record {
+      live = subst (IsLiveState m.state m.rows) (sym same) (still_live s waited m.state m.rows h met live);
+      counted = (let counted = k.counted in
+          let all = ap₂ (λ ts ps. length ts + count_by not ps) (h.added ∙ ap (λ (x : StateView). x.added) state) (h.present ∙ ap (λ (x : StateView). x.present) state) in
+          let more = length-append l.state.added (t ∷ []) in
+          let there = there_more l.state.present in
+          omega (arith, changes, counted, all, more, there));
+      fresh = inr (ap (λ (x : AnswerList). x.entries) none_a, none_h);
+      answers = empty_kept m.state m.answers n none_a;
+      held = empty_held m.state m.held none_h;
+    }
 
-  pub is_added : n ≡ l.answers.capacity → HasAdded l doc m
-  is_added capacity = record {
-    index = ap (λ (s : StateView). s.index) state;
-    corpus = added_corpus;
-    changes = changes;
-    added = ap (λ (s : StateView). length s.added) state ∙ length-append l.state.added (t ∷ []);
-    rows = met;
-    words = ap₂ words_met (ap (λ (s : StateView). s.words) state) rows;
-    answers = none_a ∙ ap (answer_list []) capacity;
-    held = none_h;
-  }
+    added_corpus : (b : List ℕ) → StandsFor b l.state.index → changing m b ≡ applied l.state.index.weights (changing l b) (added doc)
+    added_corpus b stands =
+        let live = k.live in
+        let o = l.state in
+        let ts = (image_of b).titles in
+        let posts = (stock_now o b).posts in
+        let here : StandsFor b s.index = subst (StandsFor b) (sym (ap (λ (x : StateView). x.index) state)) stands in
+        let titles : (stock_now m.state b).titles ≡ insert (stock_now o b).titles (length o.present) doc.title =
+        still_titled s waited m.state m.rows h b
+        ∙ ap (λ (x : StateView). (stock_now x b).titles) state ∙ ap (titles_now (o.present ++ true ∷ [])) (sym (append_assoc ts o.added (t ∷ [])))
+        ∙ titled_more o.present (ts ++ o.added) t (titles_long o live.state b stands) ∙ ap (insert (stock_now o b).titles (length o.present)) title in
+        let all : rows_at m.state.words (stock_now m.state b).posts ++ m.rows
+        ≡ members_in by_row ((rows_at o.words posts ++ l.rows) ++ doc_rows o.index.weights (length o.present, doc)) =
+        h.rows b here
+        ∙ ap₂ (λ (x : StateView) rs. rows_at x.words (stock_now x b).posts ++ rs) state rows
+        ∙ ap (λ ps. rows_at o.words ps ++ (l.rows ++ own)) (titled_posts o live.state t b stands)
+        ∙ sym (append_assoc (rows_at o.words posts) l.rows own)
+        ∙ rows_more o live.state t l.rows live.waiting doc a b stands in
+        let next : length m.state.present ≡ length o.present + 1 =
+        ap length h.present ∙ ap (λ (x : StateView). length x.present) state ∙ length-append o.present (true ∷ []) in
+        λ j. record { corpus = record { titles = titles j; rows = all j }; next = next j }
+
+    pub is_added : n ≡ l.answers.capacity → HasAdded l doc m
+    is_added capacity = record {
+      index = h.index ∙ ap (λ (x : StateView). x.index) state;
+      corpus = added_corpus;
+      changes = changes;
+      added = ap length h.added ∙ ap (λ (x : StateView). length x.added) state ∙ length-append l.state.added (t ∷ []);
+      rows = same ∙ many;
+      words = h.words ∙ ap₂ words_met (ap (λ (x : StateView). x.words) state) rows;
+      answers = none_a ∙ ap (answer_list []) capacity;
+      held = none_h;
+    }
 
 -- ---- one document less
-module _ (l : LiveView) (k : IsLiveKept l) (d : ℕ) (s : StateView) (h : IsSettled l.state l.rows s) (m : LiveView) (n : ℕ)
-    (state : m.state ≡ without_doc s d) (rows : m.rows ≡ []) (met : m.met ≡ l.met) (changes : m.changes ≡ l.changes + 1)
+module _ (l : LiveView) (k : IsLiveKept l) (d : ℕ) (s : StateView) (left : List Row) (h : KeepsCorpus l.state l.rows s left) (later : All (λ r. d < r.doc) left)
+    (m : LiveView) (n : ℕ) (state : m.state ≡ without_doc s d) (rows : m.rows ≡ left) (met : m.met ≡ l.met) (changes : m.changes ≡ l.changes + 1)
     (none_a : m.answers ≡ answer_list [] n) (none_h : m.held ≡ []) where
-  of_without : IsState (without_doc s d)
-  of_without = without_is s h.is d
-
   pub removed_kept : get_or l.state.present d false ≡ true → IsLiveKept m
   removed_kept here =
-      let live = settled_live l k s h in
-      let few_rows = live.few_rows in
+      let live = still_live l.state l.rows s left h l.met k.live in
       let there : get_or s.present d false ≡ true = ap (λ ps. get_or ps d false) h.present ∙ here in
       record {
-        live = subst (λ x. IsLiveState x m.rows m.met) (sym state) (subst (λ rs. IsLiveState (without_doc s d) rs m.met) (sym rows) (record {
-          state = of_without;
-          waiting = none_waiting (without_doc s d) of_without;
-          few = omega arith;
-          few_rows = omega (arith, few_rows, met);
+        live = subst (IsLiveState m.state m.rows) (sym met) (subst (λ x. IsLiveState x m.rows l.met) (sym state) (subst (λ rs. IsLiveState (without_doc s d) rs l.met) (sym rows) (record {
+          state = without_is s h.is d;
+          waiting = later_waiting s d left live.waiting later;
+          few = live.few;
+          few_rows = live.few_rows;
           few_words = live.few_words;
-        }));
+        })));
         counted = (let counted = k.counted in
-            let all = ap₂ (λ a ps. a + count_by not ps) (ap (λ (x : StateView). length x.added) state ∙ ap length h.added) (ap (λ (x : StateView). x.present) state) in
+            let all = ap₂ (λ ts ps. length ts + count_by not ps) (ap (λ (x : StateView). x.added) state ∙ h.added) (ap (λ (x : StateView). x.present) state) in
             let more = gone_more s.present d there in
             let same = ap (count_by not) h.present in
             omega (arith, changes, counted, all, more, same));
-        fresh = inl rows;
+        fresh = inr (ap (λ (x : AnswerList). x.entries) none_a, none_h);
         answers = empty_kept m.state m.answers n none_a;
         held = empty_held m.state m.held none_h;
       }
 
   removed_corpus : (b : List ℕ) → StandsFor b l.state.index → changing m b ≡ applied l.state.index.weights (changing l b) (deleted d)
   removed_corpus b stands =
+      let test = λ (r : Row). not (in_doc d r) in
+      let posts = rows_at s.words (stock_now s b).posts in
       let titles : (stock_now m.state b).titles ≡ remove (stock_now l.state b).titles d =
-      ap (λ (x : StateView). (stock_now x b).titles) state ∙ without_titles s d b ∙ ap (λ ts. remove ts d) (titles_stay l k s h b stands) in
+      ap (λ (x : StateView). (stock_now x b).titles) state ∙ without_titles s d b ∙ ap (λ ts. remove ts d) (still_titled l.state l.rows s left h b) in
       let all : rows_at m.state.words (stock_now m.state b).posts ++ m.rows ≡ filter (λ r. not (in_doc d r)) (rows_at l.state.words (stock_now l.state b).posts ++ l.rows) =
-      ap₂ (λ (x : StateView) rs. rows_at x.words (stock_now x b).posts ++ rs) state rows ∙ append-nil (rows_at s.words (stock_now (without_doc s d) b).posts)
-      ∙ without_rows s d b ∙ ap (filter (λ r. not (in_doc d r))) (h.rows b stands) in
+      ap₂ (λ (x : StateView) rs. rows_at x.words (stock_now x b).posts ++ rs) state rows
+      ∙ ap₂ (λ xs ys. xs ++ ys) (without_rows s d b) (sym (later_stay d left later))
+      ∙ sym (filter-append test posts left) ∙ ap (filter test) (h.rows b stands) in
       let next : length m.state.present ≡ length l.state.present =
       ap (λ (x : StateView). length x.present) state ∙ length-set s.present d false ∙ ap length h.present in
       λ j. record { corpus = record { titles = titles j; rows = all j }; next = next j }
@@ -287,8 +314,7 @@ module _ (l : LiveView) (k : IsLiveKept l) (d : ℕ) (s : StateView) (h : IsSett
     changes = changes;
     added = ap (λ (x : StateView). x.added) state ∙ h.added;
     rows = met;
-    words = ap₂ (λ (x : StateView) rs. words_met x.words rs) state rows ∙ ap (λ ws. words_met ws []) h.words ∙ met_twice l.state.words l.rows []
-        ∙ ap (words_met l.state.words) (append-nil l.rows);
+    words = ap₂ (λ (x : StateView) rs. words_met x.words rs) state rows ∙ h.words;
     answers = none_a ∙ ap (answer_list []) capacity;
     held = none_h;
   }

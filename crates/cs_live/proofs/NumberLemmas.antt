@@ -4,6 +4,7 @@
 --   rank_at              the words of the index below a number are the first ones
 --   rank_parted          so they are parted
 --   rank_within, rank_up, rank_step    it isn't above their number, rises, and rises by one at most for the next number
+--   own_numbers          as many words as the index has are its own, each with its own number
 --   between_by           being between two numbers is being between their ranks
 --   old_range, old_span  the range or the span of words of the index
 --   old_met_prefix, old_met_word    how many blocks hold them
@@ -17,7 +18,7 @@ use Rattle.std.specs.Str.{bytes_eq}
 use Rattle.std.specs.declared.cmp.Ordering.TheVariants.{Less}
 use Rattle.std.proofs.lemmas.Bool.{cases_lt}
 use Rattle.std.proofs.lemmas.Bool.Decides.{nat_tests}
-use Rattle.std.proofs.lemmas.List.Elements.{All-from_recursion}
+use Rattle.std.proofs.lemmas.List.Elements.{All-from_recursion, recursion_from_All}
 use Rattle.std.proofs.lemmas.List.Folds.{list_any_at}
 use Rattle.std.proofs.lemmas.Map.Keys.{Less-from_sorted}
 use Rattle.cs_base.specs.content.Orders.{AreDocs}
@@ -32,7 +33,7 @@ use Rattle.cs_model.specs.Answers.{begins}
 use Rattle.cs_model_index.specs.Numbered.{word_at}
 use Rattle.cs_model_kept.specs.Due.{met_prefix, met_word}
 use Rattle.cs_vocab.specs.Ranges.{IsRange}
-use Rattle.cs_live.specs.States.{rank}
+use Rattle.cs_live.specs.States.{AreOwnNumbers, rank}
 
 -- ---- numbers
 pub rank_is : (ns : List ℕ) (n k : ℕ) → k ≤ length ns → IsPartitionPoint (λ m. nat_lt m n ≡ true) (λ m. nat_lt m n ≡ false) ns k → k ≡ rank ns n
@@ -142,6 +143,40 @@ rank_step (m ∷ ns) up lo =
   where
     least : (m lo : ℕ) → nat_lt m lo ≡ false → lo ≤ m
     least m lo e = grind (arith, nat_tests)
+
+-- ---- numbers of as many words
+-- numbers that ascend from one on
+from_first : (ns : List ℕ) → AreDocs ns → (a n : ℕ) → AllByRecursion (λ m. a ≤ m) ns → n < length ns → a + n ≤ get_or ns n 0
+unfolding IsStrictlySortedBy
+from_first [] up a n h lt = absurd (omega (arith, lt))
+from_first (m ∷ ns) up a zero h lt = (let le = h.0 in omega (arith, le))
+from_first (m ∷ ns) up a (suc n) h lt =
+    let le = h.0 in
+    let rest = from_first ns up.1 (a + 1) n (all_then (λ x. nat_cmp m x ≡ Less) (λ x. a + 1 ≤ x) (λ x e. above a m x le e) ns up.0) (omega (arith, lt)) in
+    omega (arith, rest)
+  where
+    above : (a m x : ℕ) → a ≤ m → nat_cmp m x ≡ Less → a + 1 ≤ x
+    above a m x le e = grind (arith, nat_tests)
+
+-- and stay below another
+upto_last : (ns : List ℕ) → AreDocs ns → (a n : ℕ) → AllByRecursion (λ m. m < a) ns → n < length ns → get_or ns n 0 + length ns ≤ a + n
+unfolding IsStrictlySortedBy
+upto_last [] up a n h lt = absurd (omega (arith, lt))
+upto_last (m ∷ []) up a zero h lt = (let less = h.0 in omega (arith, less))
+upto_last (m ∷ x ∷ ns) up a zero h lt =
+    let rest = upto_last (x ∷ ns) up.1 a 0 h.1 (omega arith) in
+    let next = next_up m x up.0.0 in
+    omega (arith, rest, next)
+  where
+    next_up : (m x : ℕ) → nat_cmp m x ≡ Less → m < x
+    next_up m x e = grind (arith, nat_tests)
+upto_last (m ∷ ns) up a (suc n) h lt = (let rest = upto_last ns up.1 a n h.1 (omega (arith, lt)) in omega (arith, rest))
+
+pub own_numbers : (ws us : List (List ℕ)) (shift : List ℕ) → IsShift ws us shift → length us ≡ length shift → AreOwnNumbers shift
+own_numbers ws us shift is same n lt =
+    let low = from_first shift is.rises 0 n (recursion_from_All (λ m. 0 ≤ m) shift (λ k d l. omega arith)) lt in
+    let high = upto_last shift is.rises (length us) n (recursion_from_All (λ m. m < length us) shift is.below) lt in
+    omega (arith, low, high, same)
 
 -- ---- words of the index
 module _ (i : IndexView) (words : List (List ℕ)) (shift : List ℕ) (is : IsShift i.words words shift) where

@@ -7,8 +7,10 @@
 --   settled_is      a state it is
 --   settled_rows    with the rows behind its own
 --   taken, none_settled    rows that wait are brought in; no rows are
+--   settled_keeps, same_keeps    the corpus stays where they are brought in, or wait on
+--   tried_keeps, ok_keeps, ok_later      by what a call answers that brings them in
 use Rattle.std.proofs.Common.{◌≡◌, ℕ, ◌+◌, ◌<◌, ◌≤◌, ◌||◌, Bool, true, false, List, [], ◌∷◌, ◌++◌, length, drop, get_or, map, refl, sym, ap, ap₂, subst, ◌∙◌, arith, append-nil, append_assoc, length-append}
-use Rattle.std.specs.Prelude.{All, filter}
+use Rattle.std.specs.Prelude.{All, Err, Ok, OnErr, OnOk, Result, filter}
 use Rattle.std.specs.List.{AllByRecursion, list_any}
 use Rattle.std.specs.List.Sorted.{IsStrictlySortedBy}
 use Rattle.std.specs.Ordering.{eq_by_cmp, nat_cmp}
@@ -19,7 +21,7 @@ use Rattle.std.proofs.lemmas.Bool.{and_parts}
 use Rattle.std.proofs.lemmas.Bool.Decides.{nat_tests}
 use Rattle.std.proofs.lemmas.Cmp.{nat_list_cmp_total}
 use Rattle.std.proofs.lemmas.List.{get_or-map, length-map, map-append}
-use Rattle.std.proofs.lemmas.List.Elements.{All-append, All-filter, All-from_recursion, All-map, All-weaker, recursion_from_All}
+use Rattle.std.proofs.lemmas.List.Elements.{All-append, All-filter, All-from_recursion, All-map, All-nil, All-weaker, recursion_from_All}
 use Rattle.std.proofs.lemmas.List.Folds.{list_any-append, list_any_at}
 use Rattle.std.proofs.lemmas.Slice.Eq.{bytes_eq-Decides}
 use Rattle.std.proofs.lemmas.Map.Keys.{Less-from_sorted}
@@ -44,10 +46,11 @@ use Rattle.cs_model_index.specs.Partitions.{is_facet}
 use Rattle.cs_model_index.proofs.Listings.{listed_each, listed_few}
 use Rattle.cs_model_index.proofs.NumberedLemmas.{number_below, number_of_word, posts_ascend, rows_of_numbered}
 use Rattle.cs_model_index.proofs.TextLimits.{word_length}
-use Rattle.cs_live.specs.Lives.{AreWaiting, IsGoodRow, IsSettled}
+use Rattle.cs_live.specs.Lives.{AreWaiting, IsGoodRow, IsSettled, KeepsCorpus}
 use Rattle.cs_live.specs.Settling.{AreSettled, HaveWordSize, row_posts, words_met}
 use Rattle.cs_live.specs.States.{IsState, StateView, now_posts, renumbered, source_now, stock_now}
 use Rattle.cs_live.specs.declared.settling.Settled.{Settled}
+use Rattle.cs_live.proofs.BeginningLemmas.{none_waiting}
 use Rattle.cs_live.proofs.NowLemmas.{all_now, new_rises, sorted_behind}
 
 -- ---- numbers through another vocabulary
@@ -194,10 +197,10 @@ module _ (ws own : List (List ℕ)) (second : List ℕ) (up : IsStrictlySortedBy
   rows_known [] (r ∷ rows) e l = no_rows_left _ r.word (map (λ r. r.word) rows) e
   rows_known (n ∷ ns) (r ∷ rows) e l = (has_here n r.word l.0 (ap (λ x. get_or x 0 []) e), rows_known ns rows (ap (drop 1) e) l.1)
 
-pub brought : (words : List (List ℕ)) (shift : List ℕ) (held : List Post) (rows : List Row) (own : List (List ℕ)) (ns : List ℕ) (m : Merging) (s : Settled) → AreMerged words own m → own ≡ distinct_words rows
+pub brought : (words : List (List ℕ)) (shift : List ℕ) (held : List Post) (rows : List Row) (own : List (List ℕ)) (ns : List ℕ) (m : Merging) (s : Settled) (new : List Post) → AreMerged words own m → own ≡ distinct_words rows
     → AreNumbers own ns (map (λ r. r.word) rows) → s.words ≡ m.words.items → s.shift.items ≡ map (λ n. get_or m.first.items n 0) shift
-    → s.held.items ≡ map (renumbered m.first.items) held ++ row_posts m.second.items ns rows → AreSettled words shift held rows s
-brought words shift held rows own ns m s h own_is numbers same shift_is held_is =
+    → new ≡ map (renumbered m.first.items) held ++ row_posts m.second.items ns rows → AreSettled words shift held rows s new
+brought words shift held rows own ns m s new h own_is numbers same shift_is held_is =
     let below = recursion_from_All (IsBelow (length own)) ns numbers.below in
     record {
       first = m.first.items;
@@ -210,12 +213,13 @@ brought words shift held rows own ns m s h own_is numbers same shift_is held_is 
     }
 
 -- ---- the state behind
-abbrev pub settled_state : StateView → Settled → StateView
-settled_state s m = record { index = s.index; words = m.words; shift = m.shift.items; present = s.present; whole = s.whole; held = m.held.items; added = s.added }
+abbrev pub settled_state : StateView → Settled → List Post → StateView
+settled_state s m held = record { index = s.index; words = m.words; shift = m.shift.items; present = s.present; whole = s.whole; held = held; added = s.added }
 
-module _ (s : StateView) (is : IsState s) (rows : List Row) (w : AreWaiting s rows) (m : Settled) (h : AreSettled s.words s.shift s.held rows m) where
+module _ (s : StateView) (is : IsState s) (rows : List Row) (w : AreWaiting s rows) (m : Settled) (held : List Post)
+    (h : AreSettled s.words s.shift s.held rows m held) where
   abbrev new : StateView
-  new = settled_state s m
+  new = settled_state s m held
 
   abbrev own : List Post
   own = numbered m.words rows
@@ -259,7 +263,7 @@ module _ (s : StateView) (is : IsState s) (rows : List Row) (w : AreWaiting s ro
   rises : IsStrictlySortedBy (slice_cmp nat_cmp) m.words
   rises = subst (IsStrictlySortedBy (slice_cmp nat_cmp)) (sym h.all) (met_rises s.words rows)
 
-  pub settled_is : length (words_met s.words rows) ≤ MAX_WORDS → IsState (settled_state s m)
+  pub settled_is : length (words_met s.words rows) ≤ MAX_WORDS → IsState (settled_state s m held)
   settled_is few =
       let rec : AllByRecursion (λ r. w.from ≤ r.doc) rows = recursion_from_All (λ r. w.from ≤ r.doc) rows w.rows_from in
       let behind = w.behind in
@@ -291,7 +295,7 @@ module _ (s : StateView) (is : IsState s) (rows : List Row) (w : AreWaiting s ro
         titles = is.titles;
       }
 
-  pub settled_rows : (b : List ℕ) → StandsFor b s.index → rows_at m.words (stock_now (settled_state s m) b).posts ≡ rows_at s.words (stock_now s b).posts ++ rows
+  pub settled_rows : (b : List ℕ) → StandsFor b s.index → rows_at m.words (stock_now (settled_state s m held) b).posts ≡ rows_at s.words (stock_now s b).posts ++ rows
   settled_rows b stands =
       let old = (stock_of b).posts in
       let long = is.shift.long in
@@ -311,19 +315,20 @@ module _ (s : StateView) (is : IsState s) (rows : List Row) (w : AreWaiting s ro
       ∙ ap (λ xs. xs ++ rows) (sym (map-append (row_of s.words) now s.held))
 
 -- where the state's own parts were handed on
-pub taken : (s now : StateView) → s ≡ now → IsState now → (rows : List Row) → AreWaiting now rows → (shift : List ℕ) → shift ≡ s.shift → (held : List Post) → held ≡ s.held
-    → (m : Settled) → AreSettled s.words shift held rows m → length (words_met now.words rows) ≤ MAX_WORDS → 1 ≤ length rows → IsSettled now rows (settled_state s m)
-taken s now same is rows w shift shift_is held held_is m h few some =
-    let own : AreSettled now.words now.shift now.held rows m = subst (λ x. AreSettled x.words x.shift x.held rows m) same
-    (subst (λ ps. AreSettled s.words s.shift ps rows m) held_is (subst (λ ns. AreSettled s.words ns held rows m) shift_is h)) in
-    subst (λ x. IsSettled now rows (settled_state x m)) (sym same) (record {
-      is = settled_is now is rows w m own few;
+pub taken : (s now : StateView) → s ≡ now → IsState now → (rows : List Row) → AreWaiting now rows → (shift : List ℕ) → shift ≡ s.shift
+    → (m : Settled) (new_held : List Post) → AreSettled s.words shift s.held rows m new_held → length (words_met now.words rows) ≤ MAX_WORDS → 1 ≤ length rows
+    → IsSettled now rows (settled_state s m new_held)
+taken s now same is rows w shift shift_is m new_held h few some =
+    let own : AreSettled now.words now.shift now.held rows m new_held = subst (λ x. AreSettled x.words x.shift x.held rows m new_held) same
+    (subst (λ ns. AreSettled s.words ns s.held rows m new_held) shift_is h) in
+    subst (λ x. IsSettled now rows (settled_state x m new_held)) (sym same) (record {
+      is = settled_is now is rows w m new_held own few;
       index = refl;
       present = refl;
       whole = refl;
       added = refl;
       words = own.all;
-      rows = settled_rows now is rows w m own;
+      rows = settled_rows now is rows w m new_held own;
       same = λ none. absurd (let e = ap length none in omega (arith, e, some));
     })
 
@@ -339,3 +344,43 @@ none_settled s is rows none = subst (λ rs. IsSettled s rs s) (sym none) (record
   rows = λ b stands. sym (append-nil (rows_at s.words (stock_now s b).posts));
   same = λ e. refl;
 })
+
+-- ---- rows that are brought in, or wait on
+pub settled_keeps : (s : StateView) (rows : List Row) (new : StateView) → IsSettled s rows new → KeepsCorpus s rows new []
+settled_keeps s rows new h = record {
+  is = h.is;
+  waiting = none_waiting new h.is;
+  few = omega arith;
+  index = h.index;
+  present = h.present;
+  added = h.added;
+  words = ap (λ ws. words_met ws []) h.words ∙ met_twice s.words rows [] ∙ ap (words_met s.words) (append-nil rows);
+  rows = λ b stands. append-nil (rows_at new.words (stock_now new b).posts) ∙ h.rows b stands;
+}
+
+pub same_keeps : (s : StateView) → IsState s → (rows : List Row) → AreWaiting s rows → KeepsCorpus s rows s rows
+same_keeps s is rows w = record {
+  is = is;
+  waiting = w;
+  few = omega arith;
+  index = refl;
+  present = refl;
+  added = refl;
+  words = refl;
+  rows = λ b stands. refl;
+}
+
+module _ {X E : Type 0} (s : StateView) (rows : List Row) (new : StateView) (left : List Row) where
+  pub tried_keeps : (r : Result X E) → IsState s → AreWaiting s rows → OnOk r (IsSettled s rows new) → OnOk r (left ≡ []) → OnErr r (new ≡ s) → OnErr r (left ≡ rows)
+      → KeepsCorpus s rows new left
+  tried_keeps (Ok x) is w settled none state same = subst (KeepsCorpus s rows new) (sym none) (settled_keeps s rows new settled)
+  tried_keeps (Err e) is w settled none state same =
+      subst (λ n. KeepsCorpus s rows n left) (sym state) (subst (KeepsCorpus s rows s) (sym same) (same_keeps s is rows w))
+
+  pub ok_keeps : (r : Result X E) → OnOk r (IsSettled s rows new) → OnOk r (left ≡ []) → OnOk r (KeepsCorpus s rows new left)
+  ok_keeps (Ok x) settled none = subst (KeepsCorpus s rows new) (sym none) (settled_keeps s rows new settled)
+  ok_keeps (Err e) settled none = tt
+
+  pub ok_later : (r : Result X E) (d : ℕ) → OnOk r (left ≡ []) → OnOk r (All (λ q. d < q.doc) left)
+  ok_later (Ok x) d none = subst (All (λ (q : Row). d < q.doc)) (sym none) (All-nil (λ (q : Row). d < q.doc))
+  ok_later (Err e) d none = tt

@@ -22,6 +22,7 @@
 --   IsSettled s waited new  a state, and rows that waited brought into it
 --   IsGoodRow w r           a row that an index file may have
 --   AreWaiting s rows       rows of added documents, behind all that a state has in memory
+--   KeepsCorpus s waited new left    a state and rows that wait in place of others: the same corpus, and the same words that were met
 --   IsLiveState s rows met  what always holds of a state and these rows
 --   IsAddition w n doc a, HasTooManyRows w doc e     what is added of a document, and why its rows can't be
 --   IsFresh rows a held     nothing is kept and held while rows wait
@@ -228,6 +229,17 @@ pub record AreWaiting (s : StateView) (rows : List Row) : Type 0 where
   pub upto : from ≤ length s.present
   pub held_below : All (λ p. p.doc < from) s.held
   pub rows_from : All (λ r. from ≤ r.doc) rows
+
+-- rows were brought in, or wait on; nothing is said of where they are
+pub record KeepsCorpus (s : StateView) (waited : List Row) (new : StateView) (left : List Row) : Type 0 where
+  pub is : IsState new
+  pub waiting : AreWaiting new left
+  pub few : length left ≤ length waited
+  pub index : new.index ≡ s.index
+  pub present : new.present ≡ s.present
+  pub added : new.added ≡ s.added
+  pub words : words_met new.words left ≡ words_met s.words waited
+  pub rows : (b : List ℕ) → StandsFor b s.index → rows_at new.words (stock_now new b).posts ++ left ≡ rows_at s.words (stock_now s b).posts ++ waited
 
 -- and there are few of all
 pub record IsLiveState (s : StateView) (rows : List Row) (met : ℕ) : Type 0 where

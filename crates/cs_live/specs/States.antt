@@ -5,6 +5,7 @@
 --   StateView            an index, the words of it and of what was added, the number of each word of the index among these, which numbers are
 --                        those of documents, whether all of the index are there, the rows of added documents that are there, and the titles
 --                        of all that were added
+--   AreOwnNumbers shift  each word of the index has its own number, as where no words were added
 --   rank shift n         how many words of the index have a number below n
 --   renumbered shift p   a post of the index with the number that its word has now
 --   now_posts shift present posts    posts of the index as they are now, without those of documents that are gone
@@ -51,6 +52,10 @@ pub record StateView : Type 0 where
   pub whole : Bool
   pub held : List Post
   pub added : List (List ℕ)
+
+-- of no numbers it holds
+abbrev pub AreOwnNumbers : List ℕ → Type 0
+AreOwnNumbers shift = (n : ℕ) → n < length shift → slice_index_or shift n 0 ≡ n
 
 -- of numbers that ascend; those of the first words are below n, and those of others aren't
 abbrev pub rank : List ℕ → ℕ → ℕ

@@ -16,7 +16,8 @@ pub(crate) fn is_present(state: &State, doc: u32) -> bool
     is_set(&state.present, doc)
 }
 
-fn is_set(present: &[bool], doc: u32) -> bool
+/// Whether a number is that of a document, by the list of which ones are.
+pub(crate) fn is_set(present: &[bool], doc: u32) -> bool
     ensures { result ≡ slice_index_or present.now doc false }
 {
     match present.get(doc as usize) {

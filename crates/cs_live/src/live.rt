@@ -22,7 +22,7 @@ use crate::adding::{Addition, addition_of, put_document};
 use crate::asking::ask_state;
 use crate::facts::{has_room, index_weights, is_present, numbers_given};
 use crate::fault::{AddFault, RemoveFault};
-use crate::settling::bring_in;
+use crate::settling::{bring_in, bring_many_in, bring_own_in};
 use crate::state::{State, rows_of_index};
 use cs_base::{Doc, MAX_DOCS, MAX_ROWS, Memory, Row, Store, Weights};
 use cs_cache::Answers;
@@ -33,8 +33,8 @@ use std::marker::Model;
 
 /// An index to which documents are added and from which documents are deleted in memory, with what is kept of answers.
 ///
-/// What is kept and held is of the corpus as it is now: a change lets all of it go. Rows of added documents wait until the next request, when
-/// their words and those of the index are brought into one order.
+/// What is kept and held is of the corpus as it is now: a change lets all of it go. Rows of added documents wait until the next request, or
+/// until many wait, when their words and those of the index are brought into one order.
 #[derive(Drop)]
 pub struct Live {
     state: State,
@@ -132,6 +132,7 @@ impl Live {
         }
         let met = self.met + rows.len() as u32;
         put_document(&mut self.state, &mut self.rows, title, rows)?;
+        bring_many_in(alloc, &mut self.state, &mut self.rows);
         self.met = met;
         self.changes += 1;
         forget(alloc, &mut self.answers, &mut self.held);
@@ -140,7 +141,8 @@ impl Live {
 
     /// Deletes the document of a number, which comes to no other one. What was kept and held goes.
     ///
-    /// Rows that wait are brought in first, since their words count also where their document goes. Where it is refused, nothing changes.
+    /// Rows that wait are brought in first where its own may be among them, since their words count also where it goes. Where it is refused,
+    /// nothing changes.
     pub fn remove(&mut self, alloc: Global, doc: u32) -> Result<(), RemoveFault>
         ensures removed { OnOk result (IsRemoved self.old doc self.new) }
         ensures behind { OnOk result ((b : List ℕ) (cs : List Change) → StandsFor b self.old.state.index → IsBehind b cs self.old
@@ -152,7 +154,7 @@ impl Live {
         if !is_present(&self.state, doc) {
             return Err(RemoveFault::Absent);
         }
-        bring_in(alloc, &mut self.state, &mut self.rows)?;
+        bring_own_in(alloc, &mut self.state, &mut self.rows, doc)?;
         self.state.remove(doc);
         self.changes += 1;
         forget(alloc, &mut self.answers, &mut self.held);

@@ -1,5 +1,5 @@
 //! The numbers of words: those of the index, and those of the words of an index and of added documents together.
-ghost use Rattle.std.specs.Prelude.{◌≡◌, ◌≤◌, ◌+◌, false, nat_lt, length};
+ghost use Rattle.std.specs.Prelude.{◌≡◌, ◌≤◌, ◌+◌, false, true, nat_lt, length};
 ghost use Rattle.std.specs.{List.{list_any}, List.Sorted.{IsStrictlySortedBy}, Ordering.{nat_cmp}, Cmp.Lexicographic.{slice_cmp}, Str.{bytes_eq}};
 ghost use Rattle.cs_base.specs.content.Orders.{AreDocs};
 ghost use Rattle.cs_base.specs.declared.content.limits.TheConstants.{MAX_WORDS};
@@ -33,6 +33,13 @@ fn is_less(m: u32, n: u32) -> bool
     ensures { result ≡ nat_lt m n }
 {
     m < n
+}
+
+/// Whether the words of a state are those of its index alone. Each of these then has its own number.
+pub(crate) fn has_own_words(words: &Vocab, shift: &[u32]) -> bool
+    ensures { result ≡ true → length words.now ≡ length shift.now }
+{
+    words.len() as usize == shift.len()
 }
 
 /// The number of a word and the next one, or an empty range.

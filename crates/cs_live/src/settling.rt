@@ -1,20 +1,26 @@
 //! Rows of added documents brought into a state: one vocabulary of all words, and one list of rows in memory.
-ghost use Rattle.std.specs.Prelude.{◌≡◌, ◌≤◌, ◌<◌, ◌++◌, [], length, map, slice_index_or, IfOk, OnErr, OnOk};
-ghost use Rattle.std.specs.List.{All};
+ghost use Rattle.std.specs.Prelude.{◌≡◌, ◌+◌, ◌≤◌, ◌<◌, ◌++◌, [], true, length, map, slice_index_or, IfOk, OnErr, OnOk};
+ghost use Rattle.std.specs.{List.{All}, List.Sorted.{IsStrictlySortedBy}, Vec.{vec_capacity, vec_len}};
+ghost use Rattle.cs_base.specs.content.Orders.{by_spot};
 ghost use Rattle.cs_base.specs.declared.content.limits.TheConstants.{MAX_ROWS, MAX_WORDS};
 ghost use Rattle.cs_merge.specs.Vocabularies.{AreOfWordSize};
 ghost use Rattle.cs_model.specs.Corpus.{distinct_words};
 ghost use Rattle.cs_vocab.specs.Ranges.{AreNumbers};
-ghost use Rattle.cs_live.specs.Lives.{AreWaiting, IsSettled};
+ghost use Rattle.cs_live.specs.Lives.{AreWaiting, IsSettled, KeepsCorpus};
 ghost use Rattle.cs_live.specs.Settling.{AreMergedWith, AreSettled, HaveWordSize, row_posts, words_met};
-ghost use Rattle.cs_live.specs.States.{IsState, renumbered};
+ghost use Rattle.cs_live.specs.States.{AreOwnNumbers, IsState, renumbered};
 
-use crate::rows::renumbered;
+use crate::numbers::has_own_words;
+use crate::rows::renumber_rows;
 use crate::state::State;
 use cs_base::{Memory, Post, Row, Seq};
 use cs_merge::{Merging, merged};
 use cs_vocab::{Gathering, Numbered, Vocab};
 use std::alloc::Global;
+
+/// How many rows of added documents may wait behind an addition. So many are few beside the words that there may be: whether those of a
+/// document have room is seen by their number, but where the words are nearly too many.
+const MOST_WAITING: usize = 65_536;
 
 /// What a state has in place of its own, where rows were brought in.
 #[derive(Drop)]
@@ -23,8 +29,6 @@ pub(crate) struct Settled {
     pub(crate) words: Vocab,
     /// The number of each word of the index among these.
     pub(crate) shift: Vec<u32>,
-    /// The rows in memory, and those that were brought in behind them.
-    pub(crate) held: Vec<Post>,
 }
 
 /// Brings rows that wait into a state, so that none wait. Where memory runs out, nothing changes.
@@ -48,12 +52,63 @@ pub(crate) fn bring_in(alloc: Global, state: &mut State, rows: &mut Vec<Row>) ->
     Ok(())
 }
 
-/// Words, numbers of the index's words and rows in memory, with rows brought in behind them.
+/// Brings rows that wait into a state where they are more than `MOST_WAITING`. Where memory runs out, they wait on.
+pub(crate) fn bring_many_in(alloc: Global, state: &mut State, rows: &mut Vec<Row>)
+    requires is { IsState state.old }
+    requires waiting { AreWaiting state.old rows.old.items }
+    requires few { length rows.old.items ≤ MAX_ROWS }
+    requires few_words { length (words_met state.old.words rows.old.items) ≤ MAX_WORDS }
+
+    ensures { KeepsCorpus state.old rows.old.items state.new rows.new.items }
+{
+    if rows.len() <= MOST_WAITING {
+        return;
+    }
+    let _ = bring_in(alloc, state, rows);
+}
+
+/// Brings rows that wait into a state where those of a document may be among them. Where memory runs out, nothing changes.
+pub(crate) fn bring_own_in(
+    alloc: Global,
+    state: &mut State,
+    rows: &mut Vec<Row>,
+    doc: u32,
+) -> Result<(), Memory>
+    requires is { IsState state.old }
+    requires waiting { AreWaiting state.old rows.old.items }
+    requires few { length rows.old.items ≤ MAX_ROWS }
+    requires few_words { length (words_met state.old.words rows.old.items) ≤ MAX_WORDS }
+
+    ensures ok { OnOk result (KeepsCorpus state.old rows.old.items state.new rows.new.items) }
+    ensures later { OnOk result (All (λ r. doc < r.doc) rows.new.items) }
+    ensures state { OnErr result (state.new ≡ state.old) }
+    ensures rows { OnErr result (rows.new.items ≡ rows.old.items) }
+{
+    if are_later(rows, doc) {
+        return Ok(());
+    }
+    bring_in(alloc, state, rows)
+}
+
+// Whether rows in order are of later documents, as their first one is; so are none.
+fn are_later(rows: &[Row], doc: u32) -> bool
+    requires { IsStrictlySortedBy by_spot rows.now }
+
+    ensures { result ≡ true → All (λ r. doc < r.doc) rows.now }
+{
+    if rows.is_empty() {
+        return true;
+    }
+    doc < rows[0].doc
+}
+
+/// Words and numbers of the index's words, with those of rows brought in, and the rows behind those in memory. Where memory runs out, these
+/// stay as they are.
 pub(crate) fn brought_in(
     alloc: Global,
     words: &Vocab,
     shift: &[u32],
-    held: &[Post],
+    held: &mut Vec<Post>,
     rows: &[Row],
 ) -> Result<Settled, Memory>
     requires sized { AreOfWordSize words.now }
@@ -61,9 +116,10 @@ pub(crate) fn brought_in(
     requires few { length rows.now ≤ MAX_ROWS }
     requires few_words { length (words_met words.now rows.now) ≤ MAX_ROWS }
     requires shift { All (λ n. n < length words.now) shift.now }
-    requires held { All (λ p. p.word < length words.now) held.now }
+    requires held { All (λ p. p.word < length words.now) held.old.items }
 
-    ensures { IfOk result (AreSettled words.now shift.now held.now rows.now) }
+    ensures ok { IfOk result (λ m. AreSettled words.now shift.now held.old.items rows.now m held.new.items) }
+    ensures err { OnErr result (held.new.items ≡ held.old.items) }
 {
     let Numbered {
         words: own,
@@ -74,11 +130,12 @@ pub(crate) fn brought_in(
         first,
         second,
     } = merged(alloc, words, &own)?;
-    let shift = numbers_by(alloc, &first, shift)?;
-    let mut held = renumber(alloc, &first, held)?;
-    add_posts(&mut held, &second, numbers.as_slice(), rows)?;
+    let first: &[u32] = &first;
+    let shift = numbers_by(alloc, first, shift)?;
     let words = Vocab::from_words(Seq::from_vec(both));
-    Ok(Settled { words, shift, held })
+    let none = has_own_words(&words, first);
+    put_behind(held, none, first, &second, numbers.as_slice(), rows)?;
+    Ok(Settled { words, shift })
 }
 
 /// Words, and those of rows, brought into one order.
@@ -121,38 +178,43 @@ fn numbers_by(alloc: Global, first: &[u32], numbers: &[u32]) -> Result<Vec<u32>,
     Ok(moved)
 }
 
-// The rows with the numbers that their words have now.
-fn renumber(alloc: Global, first: &[u32], posts: &[Post]) -> Result<Vec<Post>, Memory>
-    requires { All (λ p. p.word < length first.now) posts.now }
-
-    ensures { IfOk result (λ v. v.items ≡ map (renumbered first.now) posts.now) }
-{
-    let mut moved = Vec::with_capacity(alloc, posts.len())?;
-    for post in posts {
-        moved.push(renumbered(first, *post))?;
-    }
-    Ok(moved)
-}
-
-// Adds rows whose words have these numbers among those that are brought in.
-fn add_posts(
+// Gives rows in memory the numbers that their words have among more words, and adds rows behind them. Where memory runs out, nothing changes.
+fn put_behind(
     held: &mut Vec<Post>,
+    own: bool,
+    first: &[u32],
     second: &[u32],
     numbers: &[u32],
     rows: &[Row],
 ) -> Result<(), Memory>
+    requires held { All (λ p. p.word < length first.now) held.old.items }
+    requires own { own ≡ true → AreOwnNumbers first.now }
     requires even { length numbers.now ≡ length rows.now }
     requires below { All (λ n. n < length second.now) numbers.now }
 
-    ensures { OnOk result (held.new.items ≡ held.old.items ++ row_posts second.now numbers.now rows.now) }
+    ensures ok { OnOk result (held.new.items ≡ map (renumbered first.now) held.old.items ++ row_posts second.now numbers.now rows.now) }
+    ensures err { OnErr result (held.new.items ≡ held.old.items) }
+{
+    held.reserve(rows.len())?;
+    renumber_rows(own, first, held);
+    add_posts(held, second, numbers, rows);
+    Ok(())
+}
+
+// Adds rows whose words have these numbers among those that are brought in, in the room that there is.
+fn add_posts(held: &mut Vec<Post>, second: &[u32], numbers: &[u32], rows: &[Row])
+    requires even { length numbers.now ≡ length rows.now }
+    requires below { All (λ n. n < length second.now) numbers.now }
+    requires room { vec_len held.old + length rows.now ≤ vec_capacity held.old }
+
+    ensures { held.new.items ≡ held.old.items ++ row_posts second.now numbers.now rows.now }
 {
     for i in 0..rows.len() {
-        held.push(Post {
+        held.push_reserved(Post {
             doc: rows[i].doc,
             word: second[numbers[i] as usize],
             pos: rows[i].pos,
             score: rows[i].score,
-        })?;
+        });
     }
-    Ok(())
 }

@@ -73,17 +73,7 @@ impl Source for State {
         listed: &[bool],
         into: &mut Sought,
     ) -> Result<(), FetchFault> {
-        fetch_now(
-            alloc,
-            &self.index,
-            &self.shift,
-            &self.present,
-            store,
-            k,
-            words,
-            listed,
-            into,
-        )
+        fetch_now(alloc, self, store, k, words, listed, into)
     }
 
     fn fetch_scored<S: Store>(
@@ -93,15 +83,7 @@ impl Source for State {
         k: u32,
         into: &mut Fetched,
     ) -> Result<(), FetchFault> {
-        fetch_scored_now(
-            alloc,
-            &self.index,
-            &self.shift,
-            &self.present,
-            store,
-            k,
-            into,
-        )
+        fetch_scored_now(alloc, self, store, k, into)
     }
 
     fn title<S: Store>(&self, alloc: Global, store: &mut S, doc: u32) -> Result<Text, FetchFault> {

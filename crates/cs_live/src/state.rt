@@ -1,6 +1,6 @@
 //! An opened index under changes.
 ghost use Rattle.std.specs.Prelude.{◌≡◌, ◌≤◌, ◌<◌, ◌==◌, filter, not, true, length, IfOk, OnErr, OnOk};
-ghost use Rattle.std.specs.List.{range_with_len, sum_by};
+ghost use Rattle.std.specs.List.{All, range_with_len, sum_by};
 ghost use Rattle.std.specs.Str.{is_utf8};
 ghost use Rattle.cs_base.specs.declared.content.limits.TheConstants.{MAX_DOCS, MAX_ROWS, MAX_WORDS};
 ghost use Rattle.cs_live.specs.{Lives.{AreWaiting, IsSettled}, Settling.{words_met}, States.{IsState, opened_state, with_title, without_doc}};
@@ -98,10 +98,11 @@ impl State {
 
         ensures { self.new ≡ without_doc self.old doc }
     {
-        let added = docs_of(&self.index) <= doc;
+        let first = docs_of(&self.index);
+        let added = first <= doc;
         self.present[doc as usize] = false;
         self.whole = self.whole && added;
-        forget(&mut self.held, doc);
+        forget(&mut self.held, first, doc);
     }
 
     /// The rows that waited, with their words. Where memory runs out, nothing changes.
@@ -115,16 +116,15 @@ impl State {
         ensures ok { OnOk result (IsSettled self.old rows.now self.new) }
         ensures err { OnErr result (self.new ≡ self.old) }
     {
-        let Settled { words, shift, held } = brought_in(
+        let Settled { words, shift } = brought_in(
             alloc,
             &self.words,
             &self.shift,
-            &self.held,
+            &mut self.held,
             rows,
         )?;
         self.words = words;
         self.shift = shift;
-        self.held = held;
         Ok(())
     }
 }
@@ -140,16 +140,22 @@ fn numbers_below(alloc: Global, n: u32) -> Result<Vec<u32>, Memory>
     Ok(numbers)
 }
 
-fn docs_of(index: &Index) -> u32
+/// How many documents an index has.
+pub(crate) fn docs_of(index: &Index) -> u32
     ensures { result ≡ index.now.docs }
 {
     index.docs
 }
 
-// Takes the rows of a document out.
-fn forget(held: &mut Vec<Post>, doc: u32)
+// Takes the rows of a document out of those of documents from a first one on. One before these has none.
+fn forget(held: &mut Vec<Post>, first: u32, doc: u32)
+    requires { All (λ p. first ≤ p.doc) held.old.items }
+
     ensures { held.new.items ≡ filter (λ p. not (p.doc == doc)) held.old.items }
 {
+    if doc < first {
+        return;
+    }
     held.retain(|post| post.doc != doc);
 }
 

@@ -1,34 +1,62 @@
-use Rattle.std.proofs.Common.{◌≡◌, ◌∙◌, true, ap, subst, take, arith}
+use Rattle.std.proofs.Common.{◌≡◌, ◌∙◌, ◌<◌, false, true, ap, get_or, length, subst, sym, take, arith}
 use Rattle.std.specs.Prelude.{All, filter}
+use Rattle.std.proofs.lemmas.List.Elements.{All-weaker}
+use Rattle.cs_engine.specs.Sources.{is_there}
+use Rattle.cs_file.specs.CallAnswers.{IsRanged}
 use Rattle.cs_file.specs.Indexes.{block_posts}
 use Rattle.cs_tables.specs.WordCounts.{is_chosen}
-use Rattle.cs_live.specs.States.{now_posts, rank}
-use Rattle.cs_live.proofs.NumberLemmas.{rank_within}
+use Rattle.cs_live.specs.States.{AreOwnNumbers, IsState, rank}
+use Rattle.cs_live.proofs.FetchedLemmas.{fetched_by}
+use Rattle.cs_live.proofs.NumberLemmas.{own_numbers, rank_within}
 use Rattle.cs_live.proofs.rows.fetch_now.Goals as goal
-
-pub returns-clause-fetched : goal.returns-clause-fetched
-returns-clause-fetched g c =
-    let i = c.args.index.now in
-    let lo = rank c.args.shift.now c.args.words.0 in
-    let hi = rank c.args.shift.now c.args.words.1 in
-    let posts = c.fetch_sought.new.into.posts.items in
-    let docs_are : c.index.inside.docs ≡ i.docs = ap (λ x. x.docs) c.index.view_is in
-    let read = c.in_ok-fetch_sought.ensures in
-    let cut = take c.index.inside.docs c.args.listed.now in
-    record {
-      read = posts;
-      ranged = read.ranged;
-      sought = subst (λ d. All (λ p. is_chosen lo hi (take d c.args.listed.now) p ≡ true) posts) docs_are
-          (subst (λ h. All (λ p. is_chosen lo h cut p ≡ true) posts) c.old_words-old.ensures.high
-          (subst (λ l. All (λ p. is_chosen l c.old_words-old.result.1 cut p ≡ true) posts) c.old_words-old.ensures.low read.sought));
-      stood = λ b is stands.
-          subst (λ d. posts ≡ filter (is_chosen lo hi (take d c.args.listed.now)) (block_posts b c.args.k)) docs_are
-          (subst (λ h. posts ≡ filter (is_chosen lo h cut) (block_posts b c.args.k)) c.old_words-old.ensures.high
-          (subst (λ l. posts ≡ filter (is_chosen l c.old_words-old.result.1 cut) (block_posts b c.args.k)) c.old_words-old.ensures.low (read.stood b is stands)));
-      now = c.in_ok-now.ensures ∙ ap (now_posts c.args.shift.now c.args.present.now) c.deref.ensures.value;
-    }
 
 pub fetch_sought-requires-clause-words : goal.fetch_sought-requires-clause-words
 fetch_sought-requires-clause-words g c =
-    let le = rank_within c.args.shift.now c.args.words.1 in
-    omega (arith, le, c.requires.long, c.old_words-old.ensures.high)
+    let le = rank_within c.deref-shift.result.now c.args.words.1 in
+    let long = c.state.invariant.shift.long in
+    let same = ap length c.deref-shift.ensures.value in
+    omega (arith, le, long, same, c.old_words-old.ensures.high)
+
+pub put_now-requires-clause-words : goal.put_now-requires-clause-words
+put_now-requires-clause-words g c =
+    let long = c.state.invariant.shift.long in
+    let same = ap length c.deref-shift.ensures.value in
+    All-weaker (IsRanged c.state.inside.index) (λ p. p.word < length c.deref-shift.result.now) (λ p r. let lt = r.word in omega (arith, lt, long, same))
+    c.fetch_sought.new.into.posts.items c.in_ok-fetch_sought.ensures.ranged
+
+pub put_now-requires-clause-whole : goal.put_now-requires-clause-whole
+put_now-requires-clause-whole g c w =
+    All-weaker (IsRanged c.state.inside.index) (λ p. is_there c.deref.result.now p ≡ true)
+    (λ p r. ap (λ ps. get_or ps p.doc false) c.deref.ensures.value ∙ c.state.invariant.whole w p.doc r.doc)
+    c.fetch_sought.new.into.posts.items c.in_ok-fetch_sought.ensures.ranged
+
+pub put_now-requires-clause-own : goal.put_now-requires-clause-own
+put_now-requires-clause-own g c e =
+    let s = c.state.inside in
+    subst AreOwnNumbers (sym c.deref-shift.ensures.value)
+    (own_numbers s.index.words s.words s.shift.items c.state.invariant.shift (c.has_own_words-own.ensures e ∙ ap length c.deref-shift.ensures.value))
+
+pub returns-clause-is : goal.returns-clause-is
+returns-clause-is g c = subst IsState c.state.view_is c.state.invariant
+
+pub returns-clause-fetched : goal.returns-clause-fetched
+returns-clause-fetched g c =
+    let view = c.state.view_is in
+    let shift = c.deref-shift.result.now in
+    let lo = rank shift c.args.words.0 in
+    let hi = rank shift c.args.words.1 in
+    let posts = c.fetch_sought.new.into.posts.items in
+    let read = c.in_ok-fetch_sought.ensures in
+    let cut = take c.docs_of.result c.args.listed.now in
+    fetched_by c.args.state.now (ap (λ x. x.index) view) (c.deref-shift.ensures.value ∙ ap (λ x. x.shift) view) (c.deref.ensures.value ∙ ap (λ x. x.present) view) (record {
+      read = posts;
+      ranged = read.ranged;
+      sought = subst (λ d. All (λ p. is_chosen lo hi (take d c.args.listed.now) p ≡ true) posts) c.docs_of.ensures
+          (subst (λ h. All (λ p. is_chosen lo h cut p ≡ true) posts) c.old_words-old.ensures.high
+          (subst (λ l. All (λ p. is_chosen l c.old_words-old.result.1 cut p ≡ true) posts) c.old_words-old.ensures.low read.sought));
+      stood = λ b is stands.
+          subst (λ d. posts ≡ filter (is_chosen lo hi (take d c.args.listed.now)) (block_posts b c.args.k)) c.docs_of.ensures
+          (subst (λ h. posts ≡ filter (is_chosen lo h cut) (block_posts b c.args.k)) c.old_words-old.ensures.high
+          (subst (λ l. posts ≡ filter (is_chosen l c.old_words-old.result.1 cut) (block_posts b c.args.k)) c.old_words-old.ensures.low (read.stood b is stands)));
+      now = c.put_now.ensures;
+    })

@@ -12,7 +12,7 @@ before c = record { state = c.self.inside.state; rows = c.self.inside.rows.items
 abbrev after : goal.After-forget → LiveView
 after c = record {
   state = c.remove.new.self;
-  rows = c.bring_in.new.rows.items;
+  rows = c.bring_own_in.new.rows.items;
   met = c.self.inside.met;
   changes = c.self.inside.changes + 1;
   answers = c.forget.new.answers;
@@ -24,13 +24,15 @@ none c = c.forget.ensures.answers
 
 removed_here : (c : goal.After-forget) → IsRemoved (before c) c.args.doc (after c)
 removed_here c =
-    is_removed (before c) c.self.invariant c.args.doc c.bring_in.new.state c.in_ok-bring_in.ensures.ok (after c) c.self.inside.answers.capacity c.remove.ensures c.in_ok-bring_in.ensures.none refl refl (none c)
-    c.forget.ensures.held refl
+    let brought = c.in_ok-bring_own_in.ensures in
+    is_removed (before c) c.self.invariant c.args.doc c.bring_own_in.new.state c.bring_own_in.new.rows.items brought.ok brought.later (after c) c.self.inside.answers.capacity
+    c.remove.ensures refl refl refl (none c) c.forget.ensures.held refl
 
 pub invariant_of-self-2 : goal.invariant_of-self-2
 invariant_of-self-2 c =
-    removed_kept (before c) c.self.invariant c.args.doc c.bring_in.new.state c.in_ok-bring_in.ensures.ok (after c) c.self.inside.answers.capacity c.remove.ensures c.in_ok-bring_in.ensures.none refl refl (none c)
-    c.forget.ensures.held (sym c.is_present.ensures ∙ c.if-not-is_present.false)
+    let brought = c.in_ok-bring_own_in.ensures in
+    removed_kept (before c) c.self.invariant c.args.doc c.bring_own_in.new.state c.bring_own_in.new.rows.items brought.ok brought.later (after c) c.self.inside.answers.capacity
+    c.remove.ensures refl refl refl (none c) c.forget.ensures.held (sym c.is_present.ensures ∙ c.if-not-is_present.false)
 
 pub returns-clause-removed : goal.returns-clause-removed
 returns-clause-removed c = subst (λ v. IsRemoved v c.args.doc (after c)) c.self.view_is (removed_here c)

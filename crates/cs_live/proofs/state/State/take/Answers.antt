@@ -1,3 +1,6 @@
+use Rattle.std.proofs.Common.{List, subst, sym}
+use Rattle.cs_base.specs.declared.content.doc.Post.{Post}
+use Rattle.cs_live.specs.States.{IsState, StateView}
 use Rattle.cs_live.proofs.SettledLemmas.{good_size, taken}
 use Rattle.cs_live.proofs.state.State.take.Goals as goal
 
@@ -6,10 +9,16 @@ brought_in-requires-clause-row_sized c = good_size c.args.self.now.index.weights
 
 pub invariant_of-self : goal.invariant_of-self
 invariant_of-self c =
-    (taken _ c.args.self.now c.self.view_is c.requires.is c.args.rows.now c.requires.waiting _ c.deref.ensures.value _ c.deref-2.ensures.value c.in_ok-words.field-0 c.in_ok-words.ensures
+    let i = c.self.inside in
+    let with_held : List Post → StateView = λ held. record { index = i.index; words = i.words; shift = i.shift.items; present = i.present.items; whole = i.whole; held = held; added = i.added } in
+    subst (λ held. IsState (with_held held)) (sym c.in_err-words.ensures.err) c.self.invariant
+
+pub invariant_of-self-2 : goal.invariant_of-self-2
+invariant_of-self-2 c =
+    (taken _ c.args.self.now c.self.view_is c.requires.is c.args.rows.now c.requires.waiting _ c.deref.ensures.value c.in_ok-words.field-0 c.brought_in.new.held.items c.in_ok-words.ensures.ok
     c.requires.few_words c.requires.some).is
 
 pub returns-clause-ok : goal.returns-clause-ok
 returns-clause-ok c =
-    taken _ c.args.self.now c.self.view_is c.requires.is c.args.rows.now c.requires.waiting _ c.deref.ensures.value _ c.deref-2.ensures.value c.in_ok-words.field-0 c.in_ok-words.ensures
+    taken _ c.args.self.now c.self.view_is c.requires.is c.args.rows.now c.requires.waiting _ c.deref.ensures.value c.in_ok-words.field-0 c.brought_in.new.held.items c.in_ok-words.ensures.ok
     c.requires.few_words c.requires.some
