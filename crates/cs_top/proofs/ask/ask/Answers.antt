@@ -2,7 +2,7 @@ use Rattle.std.proofs.Common.{◌≡◌, ◌∙◌, ap, map, sym, subst}
 use Rattle.std.specs.Prelude.{Some}
 use Rattle.cs_model.specs.Collection.{documents, weights}
 use Rattle.cs_model.specs.Corpus.{corpus}
-use Rattle.DOC_OF_LENT
+use Rattle.cs_docs.specs.LinesRead.{doc_of_lent}
 use Rattle.cs_top.specs.Filed.{IsFiled}
 use Rattle.cs_top.specs.HitForms.{AreDocumentsOf, AtHand, form_by}
 use Rattle.cs_top.specs.Met.{held_bytes, wrote}
