@@ -3,8 +3,9 @@
 --   live_start                       before the first line
 --   live_goes_on, live_ends_here, live_ends_done     behind a line, at one at which it ends, and at the end of the file
 --   live_short, live_answered, live_read, live_changed     of `live`: its script ended early, each line was answered, a read failed
+--   script_caused, answered_caused, read_caused, changed_caused      and why a count rose, or none did
 use Rattle.std.proofs.Common.{◌≡◌, ℕ, suc, ◌+◌, ◌≤◌, List, [], ◌∷◌, ◌++◌, length, take, inl, inr, refl, sym, ap, subst, arith}
-use Rattle.std.specs.Prelude.{Option}
+use Rattle.std.specs.Prelude.{Option, false}
 use Rattle.std.proofs.lemmas.List.{take_all}
 use Rattle.std.proofs.lemmas.List.Elements.{All-nil, All-push}
 use Rattle.cs_base.specs.outside.Causes.{Rose}
@@ -18,11 +19,12 @@ use Rattle.cs_model_live.specs.Courses.{Course}
 use Rattle.cs_model_live.specs.LiveStates.{LiveState, before_changes}
 use Rattle.cs_top.proofs.AnsweredLemmas.{HasAnswered, as_put, at_start, ends_at_line, ends_done, goes_behind, goes_past, lines_at, unread}
 use Rattle.cs_top.specs.Answering.{CameCounts, worst}
-use Rattle.cs_top.specs.CommandLine.{Ending, done, failed}
+use Rattle.cs_top.specs.CommandLine.{Ending, changed, done, failed}
 use Rattle.cs_top.specs.LiveRuns.{IsToldCourse, LiveScript}
 use Rattle.cs_top.specs.LiveSteps.{IsLiveStep, IsToldCourseTo, LineText, LiveReaches}
 use Rattle.cs_top.specs.Met.{Wrote}
-use Rattle.cs_top.specs.ScriptEndings.{EndsAt, ScriptEndsBy, ShortTally, Tally}
+use Rattle.cs_top.specs.ScriptEndings.{EndsAt, ScriptCaused, ScriptEndsBy, ShortTally, Tally}
+use Rattle.cs_top.specs.ScriptRuns.{ReplayCaused}
 use Rattle.cs_top.specs.Views.{of_script, stop_ending}
 use Rattle.cs_top.specs.declared.lines.Place.{Place}
 use Rattle.cs_top.specs.declared.lines.ScriptStop.{ScriptStop}
@@ -105,3 +107,21 @@ module _ (b : List ℕ) (ls : List (ℕ × List ℕ)) (before now : ℕ) (w : Wr
 
   pub live_changed : ((ts : List (List ℕ)) × ScriptEndsBy (IsToldCourse b) done ls ts w × Tally came.Changed before now ts) → ⊥
   live_changed (ts, h, t) = t.unchanged refl
+
+-- ---- why a run ends behind its script
+-- each line was answered: no count rose
+pub answered_caused : (before now first last : ℕ) → CameCounts Answered before now → last ≡ first → ReplayCaused done before now first last
+answered_caused before now first last c quiet = (c.quiet (λ e. cc e), quiet)
+
+-- a read failed
+pub read_caused : (before now first last : ℕ) → CameCounts came.Read before now → last ≡ first → ReplayCaused failed before now first last
+read_caused before now first last c quiet = (inl (c.read refl), c.later, omega (arith, quiet))
+
+-- the file changed: no count rose
+pub changed_caused : (before now first last : ℕ) → CameCounts came.Changed before now → last ≡ first → ReplayCaused changed before now first last
+changed_caused before now first last c quiet = (c.quiet (λ e. cc e), quiet)
+
+-- its script ended early
+pub script_caused : (s : ScriptStop) (from before now first last : ℕ) → before ≡ from → ScriptCaused (stop_ending (of_script s)) false before now first last → ReplayCaused (stop_ending (of_script s)) from now first last
+script_caused (scripts.Unread x) from before now first last calm c = (subst (λ n. n ≤ now) calm c.0, c.2)
+script_caused scripts.Failed from before now first last calm c = subst (λ n. ReplayCaused failed n now first last) calm c

@@ -5,11 +5,13 @@
 --   opened_kind, opened_cause               a stop of opening is one of reading whole
 --   whole_by, told_by                       a stop of an index file that is read whole, over any files and over those that tell
 --   merged_by                               a stop of images that are merged
---   short_by                                a stop of a script
+--   short_of, short_by                      a stop of a script
+--   ended_early                             a stop that is handed on ends the run
 --   live_first, live_second, live_unopened      a `live` ends before its script, over files that tell
 --   ask_absent, ask_refused, replay_absent, replay_damaged, live_absent, live_damaged     so an `ask`, a `replay` and a `live` end before their script
 use Rattle.std.proofs.Common.{◌≡◌, ◌⊎◌, ℕ, List, inl, inr, refl, sym, subst}
-use Rattle.std.specs.Prelude.{Option, Some, None, MatchOption, Result, Err, IfErr}
+use Rattle.std.specs.Prelude.{Option, Some, None, MatchOption, Result, Ok, Err, IfErr}
+use Rattle.std.specs.Result.{IsErrAnd}
 use Rattle.std.specs.Option.{ForSome, option_map}
 use Rattle.std.specs.FinMap as map
 use Rattle.cs_base.specs.outside.Outside.{Held, IsHeld}
@@ -31,7 +33,7 @@ use Rattle.cs_top.specs.LiveRuns.{LiveEnds, LiveTold}
 use Rattle.cs_top.specs.LiveTexts.{IsLiveText}
 use Rattle.cs_top.specs.PutTexts.{EndsBy, EndsOf, IsOwnText, OwnText}
 use Rattle.cs_top.specs.ScriptRuns.{AreHeld, AskEnds, ReplayEnds}
-use Rattle.cs_top.specs.Views.{IsAbsence, IsDamage, IsMergeCause, IsMissing, IsOfIndex, IsOfSource, IsOfWhole, IsSourceCause, IsStopCause, IsWholeCause, collection_ending, collection_refusal_of, fault_form, fault_seen, import_refusal_of, merge_ending, of_script, source_refusal_of, stop_ending}
+use Rattle.cs_top.specs.Views.{IsAbsence, IsDamage, IsMergeCause, IsMissing, IsOfIndex, IsOfSource, IsOfWhole, IsSourceCause, IsStopCause, IsWholeCause, collection_ending, collection_refusal_of, ended, fault_form, fault_seen, import_refusal_of, merge_ending, of_script, source_refusal_of, stop_ending}
 use Rattle.cs_top.specs.declared.ending.RunStop.{RunStop}
 use Rattle.cs_top.specs.declared.ending.RunStop.TheVariants as stops
 use Rattle.cs_top.specs.declared.lines.ScriptStop.{ScriptStop}
@@ -192,6 +194,11 @@ module _ (P : Ending → Type 0) where
   pub short_by : (form : HitForm) (w : Wrote) (r : Result WhatCame ScriptStop) (x : ScriptStop) (s : RunStop) → ((f : ScriptFault) → EndsBy form (script_refused f) w → P (script_refused f)) → (EndsBy form failed w → P failed)
       → r ≡ Err x → IfErr r (λ y. EndsBy form (stop_ending (of_script y)) w) → s ≡ of_script x → P (stop_ending s)
   short_by form = short_of (IsOwnText form)
+
+-- a stop that is handed on ends the run
+pub ended_early : (P : Ending → Type 0) (r : Result (Unit {0}) RunStop) (x : RunStop) → IsErrAnd r (λ y. y ≡ x) → P (stop_ending x) → P (ended r)
+ended_early P (Ok u) x is h = absurd is
+ended_early P (Err y) x is h = subst (λ z. P (stop_ending z)) (sym is) h
 
 -- ---- over any files, where nothing was put
 module _ (a s : List ℕ) (w : Wrote) (x : RunStop) (same : w.new ≡ w.old) where
