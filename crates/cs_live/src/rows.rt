@@ -10,7 +10,7 @@ ghost use Rattle.cs_live.specs.States.{AreOwnNumbers, AreScoredNow, IsFetched, I
 
 use crate::facts::is_set;
 use crate::numbers::{has_own_words, old_words};
-use crate::state::{State, docs_of};
+use crate::state::{State, docs_of_index};
 use cs_base::{Post, Store};
 use cs_file::{FetchFault, Fetched, Sought};
 use std::alloc::Global;
@@ -36,7 +36,7 @@ pub(crate) fn fetch_now<S: Store>(
 {
     let shift: &[u32] = &state.shift;
     let old = old_words(shift, words);
-    let docs = &listed[..docs_of(&state.index) as usize];
+    let docs = &listed[..docs_of_index(&state.index) as usize];
     state.index.fetch_sought(alloc, store, k, old, docs, into)?;
     let own = has_own_words(&state.words, shift);
     put_now(state.whole, own, shift, &state.present, &mut into.posts);

@@ -98,7 +98,7 @@ impl State {
 
         ensures { self.new ≡ without_doc self.old doc }
     {
-        let first = docs_of(&self.index);
+        let first = docs_of_index(&self.index);
         let added = first <= doc;
         self.present[doc as usize] = false;
         self.whole = self.whole && added;
@@ -141,7 +141,7 @@ fn numbers_below(alloc: Global, n: u32) -> Result<Vec<u32>, Memory>
 }
 
 /// How many documents an index has.
-pub(crate) fn docs_of(index: &Index) -> u32
+pub(crate) fn docs_of_index(index: &Index) -> u32
     ensures { result ≡ index.now.docs }
 {
     index.docs

@@ -47,15 +47,15 @@ returns-clause-fetched g c =
     let hi = rank shift c.args.words.1 in
     let posts = c.fetch_sought.new.into.posts.items in
     let read = c.in_ok-fetch_sought.ensures in
-    let cut = take c.docs_of.result c.args.listed.now in
+    let cut = take c.docs_of_index.result c.args.listed.now in
     fetched_by c.args.state.now (ap (λ x. x.index) view) (c.deref-shift.ensures.value ∙ ap (λ x. x.shift) view) (c.deref.ensures.value ∙ ap (λ x. x.present) view) (record {
       read = posts;
       ranged = read.ranged;
-      sought = subst (λ d. All (λ p. is_chosen lo hi (take d c.args.listed.now) p ≡ true) posts) c.docs_of.ensures
+      sought = subst (λ d. All (λ p. is_chosen lo hi (take d c.args.listed.now) p ≡ true) posts) c.docs_of_index.ensures
           (subst (λ h. All (λ p. is_chosen lo h cut p ≡ true) posts) c.old_words-old.ensures.high
           (subst (λ l. All (λ p. is_chosen l c.old_words-old.result.1 cut p ≡ true) posts) c.old_words-old.ensures.low read.sought));
       stood = λ b is stands.
-          subst (λ d. posts ≡ filter (is_chosen lo hi (take d c.args.listed.now)) (block_posts b c.args.k)) c.docs_of.ensures
+          subst (λ d. posts ≡ filter (is_chosen lo hi (take d c.args.listed.now)) (block_posts b c.args.k)) c.docs_of_index.ensures
           (subst (λ h. posts ≡ filter (is_chosen lo h cut) (block_posts b c.args.k)) c.old_words-old.ensures.high
           (subst (λ l. posts ≡ filter (is_chosen l c.old_words-old.result.1 cut) (block_posts b c.args.k)) c.old_words-old.ensures.low (read.stood b is stands)));
       now = c.put_now.ensures;
