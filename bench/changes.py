@@ -1,0 +1,77 @@
+#!/usr/bin/env python3
+"""What additions and deletions take in `live`, and a keystroke behind them, beside the same over the index alone.
+
+    bench/changes.py PROGRAM COLLECTION [RUNS]
+
+It builds the index of COLLECTION, types some words of its titles letter by letter, and has PROGRAM answer them as `replay` and as `live`:
+with nothing changed, and behind 1,000 documents of 100 words added and 1,000 deleted. Then it adds documents behind others. Each figure is
+the least of RUNS differences (5 where it is left out) of processor time between a script and the same one without what is measured.
+"""
+import os
+import pathlib
+import random
+import re
+import subprocess
+import sys
+import tempfile
+
+WORDS, CHANGES, MANY, TYPED = 100, 1_000, 100_000, 60
+
+
+def processor_time(words):
+    """Seconds that a run takes of a processor."""
+    before = os.times()
+    subprocess.run(words, stdout=subprocess.DEVNULL, check=True)
+    after = os.times()
+    return after.children_user + after.children_system - before.children_user - before.children_system
+
+
+def additions(dice, known, count):
+    """Lines that add so many documents of words that are known, and of one that isn't."""
+    for number in range(count):
+        yield f"add {' '.join(dice.choices(known, k=8))}\t\t{' '.join(dice.choices(known, k=WORDS - 9))} added{number}\n"
+
+
+def typed(dice, titles):
+    """Words of titles, letter by letter, each second time with another word of the title in front."""
+    for _ in range(TYPED):
+        words = re.findall(r"[a-z]+", dice.choice(titles).lower()) or ["a"]
+        word = dice.choice(words)
+        front = "" if dice.random() < 0.5 else words[0] + "+"
+        for letters in range(1, len(word) + 1):
+            yield f"q={front}{word[:letters]}\n"
+
+
+def main():
+    program, collection = sys.argv[1:3]
+    runs = int(sys.argv[3]) if len(sys.argv) > 3 else 5
+    dice = random.Random(20)
+    lines = pathlib.Path(collection).read_text("utf-8").split("\n")
+    known = sorted({word for line in dice.sample(lines, min(len(lines), 2_000)) for word in re.findall(r"[a-z]+", line.lower())})
+    keys = list(typed(dice, [line.split("\t")[0] for line in lines]))
+    some, many = list(additions(dice, known, 2 * CHANGES)), list(additions(dice, known, MANY + CHANGES))
+    gone = [f"del {number}\n" for number in dice.sample(range(len(lines)), min(CHANGES, len(lines) // 2))]
+    changed = some[:CHANGES] + gone
+    with tempfile.TemporaryDirectory() as made:
+        folder = pathlib.Path(made)
+        subprocess.run([program, "build", collection, folder / "index"], check=True)
+
+        def least(command, script, without):
+            """The least difference of two scripts, in milliseconds."""
+            taken = []
+            for name, content in (("long", script), ("short", without)):
+                (folder / name).write_text("".join(content))
+                taken.append(min(processor_time([program, command, folder / "index", folder / name]) for _ in range(runs)))
+            return 1_000 * (taken[0] - taken[1])
+
+        alone = least("replay", keys, []) / len(keys)
+        print(f"a keystroke: {alone:.3f} ms")
+        print(f"the same in `live`, nothing changed: {least('live', keys, []) / len(keys) / alone:.2f} times")
+        print(f"behind {CHANGES} additions and {len(gone)} deletions: {least('live', changed + keys, changed) / len(keys) / alone:.2f} times")
+        print(f"an addition behind {CHANGES}: {least('live', some, some[:CHANGES]) / CHANGES:.3f} ms")
+        print(f"an addition behind {MANY}: {least('live', many, many[:MANY]) / CHANGES:.3f} ms")
+        print(f"a deletion behind {CHANGES} additions: {least('live', changed, some[:CHANGES]) / len(gone):.3f} ms")
+
+
+if __name__ == "__main__":
+    main()
