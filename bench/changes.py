@@ -7,10 +7,10 @@ It builds the index of COLLECTION, types some words of its titles letter by lett
 with nothing changed, and behind 1,000 documents of 100 words added and 1,000 deleted. Then it adds documents behind others. Each figure is
 the least of RUNS differences (5 where it is left out) of processor time between a script and the same one without what is measured.
 """
-import os
 import pathlib
 import random
 import re
+import resource
 import subprocess
 import sys
 import tempfile
@@ -20,10 +20,10 @@ WORDS, CHANGES, MANY, TYPED = 100, 1_000, 100_000, 60
 
 def processor_time(words):
     """Seconds that a run takes of a processor."""
-    before = os.times()
+    before = resource.getrusage(resource.RUSAGE_CHILDREN)
     subprocess.run(words, stdout=subprocess.DEVNULL, check=True)
-    after = os.times()
-    return after.children_user + after.children_system - before.children_user - before.children_system
+    after = resource.getrusage(resource.RUSAGE_CHILDREN)
+    return after.ru_utime + after.ru_stime - before.ru_utime - before.ru_stime
 
 
 def additions(dice, known, count):
@@ -49,7 +49,7 @@ def main():
     lines = pathlib.Path(collection).read_text("utf-8").split("\n")
     known = sorted({word for line in dice.sample(lines, min(len(lines), 2_000)) for word in re.findall(r"[a-z]+", line.lower())})
     keys = list(typed(dice, [line.split("\t")[0] for line in lines]))
-    some, many = list(additions(dice, known, 2 * CHANGES)), list(additions(dice, known, MANY + CHANGES))
+    some, many = list(additions(dice, known, 2 * CHANGES)), list(additions(dice, known, MANY + 10 * CHANGES))
     gone = [f"del {number}\n" for number in dice.sample(range(len(lines)), min(CHANGES, len(lines) // 2))]
     changed = some[:CHANGES] + gone
     with tempfile.TemporaryDirectory() as made:
@@ -69,7 +69,7 @@ def main():
         print(f"the same in `live`, nothing changed: {least('live', keys, []) / len(keys) / alone:.2f} times")
         print(f"behind {CHANGES} additions and {len(gone)} deletions: {least('live', changed + keys, changed) / len(keys) / alone:.2f} times")
         print(f"an addition behind {CHANGES}: {least('live', some, some[:CHANGES]) / CHANGES:.3f} ms")
-        print(f"an addition behind {MANY}: {least('live', many, many[:MANY]) / CHANGES:.3f} ms")
+        print(f"an addition behind {MANY}: {least('live', many, many[:MANY]) / 10 / CHANGES:.3f} ms")
         print(f"a deletion behind {CHANGES} additions: {least('live', changed, some[:CHANGES]) / len(gone):.3f} ms")
 
 

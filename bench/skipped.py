@@ -1,17 +1,19 @@
 #!/usr/bin/env python3
 """How many blocks requests within a year meet, and how many of them reach one of its documents.
 
-    bench/skipped.py PROGRAM [DOCUMENTS]
+    bench/skipped.py PROGRAM [DOCUMENTS [OTHER]]
 
 It makes a collection of made words in the order of the years and the same one in no order, has PROGRAM build both, and counts from the
 directory of each index file: for the words of the last part, and for the facet `year`, the blocks that hold one, and those whose bounds
-reach a document of the year. Then it has PROGRAM answer the requests and counts its reads (it needs strace).
+reach a document of the year. Then it has PROGRAM, and OTHER where it is named, answer the requests, counts the reads (it needs strace) and
+takes the processor time, the least of nine runs, the time of an empty script left out.
 """
 import bisect
 import itertools
 import pathlib
 import random
 import re
+import resource
 import struct
 import subprocess
 import sys
@@ -92,6 +94,18 @@ def reads(program, folder, name):
     return runs[1] - runs[0]
 
 
+def milliseconds(program, folder, name):
+    """Processor time for all requests, opening left out."""
+    taken = {}
+    for script in ("none", "requests") * 9:
+        before = resource.getrusage(resource.RUSAGE_CHILDREN)
+        subprocess.run([program, "replay", folder / f"{name}.index", folder / script], stdout=subprocess.DEVNULL, check=True)
+        after = resource.getrusage(resource.RUSAGE_CHILDREN)
+        spent = after.ru_utime + after.ru_stime - before.ru_utime - before.ru_stime
+        taken[script] = min(spent, taken.get(script, spent))
+    return round(1_000 * (taken["requests"] - taken["none"]))
+
+
 def main():
     program, size = sys.argv[1], int(sys.argv[2]) if len(sys.argv) > 2 else 300_000
     random.seed(9)
@@ -105,7 +119,8 @@ def main():
             (folder / "collection").write_text("\n".join(lines) + "\n")
             subprocess.run([program, "build", folder / "collection", folder / f"{name}.index"], check=True)
             count(name, folder, lines, requests)
-            print(f"{name}: {reads(program, folder, name)} reads")
+            for one in [program, *sys.argv[3:4]]:
+                print(f"{name}: {one} takes {reads(one, folder, name)} reads and {milliseconds(one, folder, name)} ms")
             random.shuffle(lines)
 
 
