@@ -5,11 +5,12 @@
 --   shown_in          the hits that are shown have documents of the index
 --   hits_few          there are no more hits than documents
 --   words_as_shown, facet_told, title_told, reply_told     what is shown, over the bytes of the index
+--   shown_more, docs_more     one more is shown
 use Rattle.std.proofs.Common.{◌≡◌, ℕ, ◌+◌, ◌<◌, ◌≤◌, ◌^◌, List, [], ◌∷◌, ◌++◌, length, map, take, drop, get_or, refl, sym, ap, subst, ◌∙◌, arith}
 use Rattle.std.specs.Prelude.{All}
 use Rattle.std.specs.List.{AllByRecursion}
 use Rattle.std.specs.List.Sorted.{IsStrictlySortedBy}
-use Rattle.std.proofs.lemmas.List.{append_assoc, get_or_default, length-map}
+use Rattle.std.proofs.lemmas.List.{append_assoc, get_or_default, length-map, map-append}
 use Rattle.std.proofs.lemmas.List.Elements.{All-weaker, All-take, All-drop, All-map, recursion_from_All}
 use Rattle.cs_base.specs.content.Members.{members_in}
 use Rattle.cs_base.specs.content.Orders.{AreByDoc, AreDocs, by_rank}
@@ -150,3 +151,11 @@ shown_more f whole shown now xs i d y l is more so_far =
     so_far ∙ ap (λ r. shown ++ map f r) (next_is xs i x l (get_or_default xs i d x l))
     ∙ sym (append_assoc shown (f x ∷ []) (map f (drop (i + 1) xs))) ∙ ap (λ z. (shown ++ z ∷ []) ++ map f (drop (i + 1) xs)) (sym is)
     ∙ ap (λ l. l ++ map f (drop (i + 1) xs)) (sym more)
+
+pub docs_more : (shown now : List HitShown) (hs : List Scored) (i : ℕ) (d : Scored) (x : HitShown) → i < length hs → x.doc ≡ (get_or hs i d).doc
+    → now ≡ shown ++ x ∷ [] → map (λ h. h.doc) hs ≡ map (λ s. s.doc) shown ++ map (λ h. h.doc) (drop i hs)
+    → map (λ h. h.doc) hs ≡ map (λ s. s.doc) now ++ map (λ h. h.doc) (drop (i + 1) hs)
+docs_more shown now hs i d x l is more so_far =
+    let doc : HitShown → ℕ = λ s. s.doc in
+    shown_more (λ (h : Scored). h.doc) (map (λ h. h.doc) hs) (map doc shown) (map doc now) hs i d x.doc l is
+    (ap (map doc) more ∙ map-append doc shown (x ∷ [])) so_far

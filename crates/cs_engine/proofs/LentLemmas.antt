@@ -28,7 +28,7 @@ use Rattle.cs_model_kept.specs.Due.{Division, due, met_by, met_of_facets}
 use Rattle.cs_model_kept.specs.Entries.{EntryOf}
 use Rattle.cs_model_kept.specs.KeptList.{KeptOf, plan_by, used_entry}
 use Rattle.cs_model_kept.specs.KeptListLaws.{before_last}
-use Rattle.cs_engine.specs.Asking.{titles_asked}
+use Rattle.cs_engine.specs.Asking.{filed_titles}
 use Rattle.cs_engine.specs.Keeping.{AnswersRight, AreGoodFor, EngineView, FitsQuery, HoldsGood, IsAfterFor, IsEntryOver, IsPlanned, engine_with, entry_with}
 use Rattle.cs_engine.specs.IndexReading.{AreWithin}
 use Rattle.cs_engine.specs.Stocked.{Stock}
@@ -112,9 +112,9 @@ pub due_is : (v : Division) (r : Request) (by_plan : Plan) (titles : ℕ) → du
 unfolding due
 due_is v r by_plan titles = refl
 
-pub err_due : {T : Type 0} (q : Request) (r : Result (Reply × T) FetchFault) → IsErr r → titles_asked q r ≡ q.hits
-err_due q (Ok r) h = absurd cc
-err_due q (Err e) h = refl
+pub err_due : {T : Type 0} (n : ℕ) (q : Request) (r : Result (Reply × T) FetchFault) → IsErr r → filed_titles n q r ≡ q.hits
+err_due n q (Ok r) h = absurd cc
+err_due n q (Err e) h = refl
 
 -- ---- refusals
 pub refusal_right : {k : Corpus} {s : Stock} {r : Request} {old new : EngineView} (a : Result (Reply × Note) FetchFault) → IsErr a

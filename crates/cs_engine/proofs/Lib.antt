@@ -29,6 +29,7 @@ pub mod ReplyLemmas
 pub mod PartSteps
 pub mod StockLemmas
 pub mod TableLemmas
+pub mod TitlesRead
 pub mod UnionLemmas
 pub mod VocabLemmas
 pub mod AskedWords

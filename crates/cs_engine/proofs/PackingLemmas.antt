@@ -364,18 +364,36 @@ within_posts v is read ranged = λ j e l.
 held_ranged : (v : SourceView) → IsSource v → All (IsRanged (seen v)) v.held
 held_ranged v is = All-weaker (IsIn v) (IsRanged (seen v)) (λ p h. h.ranged) v.held is.held
 
--- and so have those in memory
-pub held_packed : (v : SourceView) → IsSource v → (held : List Post) → held ≡ v.held → All (IsPacked v.index.weights) held
-held_packed v is held same = subst (All (IsPacked v.index.weights)) (sym same) (packed_posts v is v.held (held_ranged v is))
+-- and so have those in memory of some words
+module _ (v : SourceView) (is : IsSource v) {lo hi : ℕ} (held : List Post) (same : held ≡ filter (is_between lo hi) v.held) where
+  some_held : (P : Post → Type 0) → All P v.held → All P held
+  some_held P all = subst (All P) (sym same) (All-filter (is_between lo hi) P v.held all)
 
-pub held_within : (v : SourceView) → IsSource v → (held : List Post) → held ≡ v.held → All (IsWithin v.docs (length v.words)) held
-held_within v is held same = subst (All (IsWithin v.docs (length v.words))) (sym same) (within_posts v is v.held (held_ranged v is))
+  pub held_packed : All (IsPacked v.index.weights) held
+  held_packed = some_held (IsPacked v.index.weights) (packed_posts v is v.held (held_ranged v is))
 
--- their documents are there
-pub held_known : (v : SourceView) → IsSource v → (held : List Post) → held ≡ v.held → {docs : ℕ} → docs ≡ v.docs → All (λ p. p.doc < docs) held
-held_known v is held same {docs} docs_are =
-    All-weaker (IsWithin v.docs (length v.words)) (λ p. p.doc < docs) (λ p h. let doc = h.doc in omega (arith, doc, docs_are)) held
-    (held_within v is held same)
+  pub held_within : All (IsWithin v.docs (length v.words)) held
+  held_within = some_held (IsWithin v.docs (length v.words)) (within_posts v is v.held (held_ranged v is))
+
+  -- their documents are there
+  pub held_known : {docs : ℕ} → docs ≡ v.docs → All (λ p. p.doc < docs) held
+  held_known {docs} docs_are =
+      All-weaker (IsWithin v.docs (length v.words)) (λ p. p.doc < docs) (λ p h. let doc = h.doc in omega (arith, doc, docs_are)) held held_within
+
+and_again : (a b : Bool) → (a && (a && b)) ≡ (a && b)
+and_again a b = elim a [
+  | true ↦ refl
+  | false ↦ refl
+]
+
+-- of these words the rows in memory are chosen among all that are in memory
+pub held_chosen : (v : SourceView) (lo hi : ℕ) (listed : List Bool) (held : List Post) → held ≡ filter (is_between lo hi) v.held
+    → filter (is_chosen lo hi listed) held ≡ filter (is_chosen lo hi listed) v.held
+held_chosen v lo hi listed held same =
+    let p = is_between lo hi in
+    let t = is_chosen lo hi listed in
+    ap (filter t) same ∙ sym (filter_twice p t v.held)
+    ∙ filter_alike (λ x. p x && t x) t v.held (all_of _ (λ x. and_again (p x) (get_or listed x.doc false)) v.held)
 
 pub no_keys : (v : SourceView) (told : Option (List ℕ)) (first : ℕ) (t : Post → Bool) (keys : List ℕ) → keys ≡ [] → HasKeys v told first first t keys
 no_keys v told first t keys none = record {
@@ -452,7 +470,7 @@ pub record HasMore (v : SourceView) (lo hi : ℕ) (listed : List Bool) (keys : L
   pub passed : All (λ p. is_chosen lo hi listed p ≡ true) rows
 
 pub with_held : (v : SourceView) → IsSource v → (told : Option (List ℕ)) (lo hi : ℕ) (listed : List Bool) (g : GatheredKeys) (held : List Post) (keys : List ℕ)
-    → HasGathered v told lo hi listed g → held ≡ v.held → keys ≡ g.keys.items ++ map (key_of v.index.weights) (filter (is_chosen lo hi listed) held)
+    → HasGathered v told lo hi listed g → held ≡ filter (is_between lo hi) v.held → keys ≡ g.keys.items ++ map (key_of v.index.weights) (filter (is_chosen lo hi listed) held)
     → HasMore v lo hi listed keys
 with_held v is told lo hi listed g held keys has held_is added =
     let w = v.index.weights in
@@ -471,7 +489,7 @@ with_held v is told lo hi listed g held keys has held_is added =
 -- the numbers of what is gathered of all blocks that hold such words, and of the rows in memory behind them
 pub gathered : (v : SourceView) → IsSource v → (told : Option (List ℕ)) (first last lo hi : ℕ) (listed : List Bool) (held : List Post) (old keys : List ℕ)
     → AreMet v.index.heads (v.before lo) (v.before hi) first last → HasKeys v told first last (is_chosen lo hi listed) old
-    → held ≡ v.held → keys ≡ old ++ map (key_of v.index.weights) (filter (is_chosen lo hi listed) held) → AreGathered v told lo hi listed keys
+    → held ≡ filter (is_between lo hi) v.held → keys ≡ old ++ map (key_of v.index.weights) (filter (is_chosen lo hi listed) held) → AreGathered v told lo hi listed keys
 gathered v is told first last lo hi listed held old keys met h held_is added =
     let w = v.index.weights in
     let t = is_chosen lo hi listed in
@@ -484,7 +502,7 @@ gathered v is told first last lo hi listed held old keys met h held_is added =
           (All-filter t (IsWithin v.docs (length v.words)) held (held_within v is held held_is));
       passed = All-append (λ p. t p ≡ true) h.rows more h.passed (filter_passes t held);
       stood = λ b tells stands.
-          subst (AreAlike (v.stock b) lo hi listed) (ap₂ (λ x y. x ++ filter t y) (sym (h.run b tells stands)) (sym held_is))
+          subst (AreAlike (v.stock b) lo hi listed) (ap₂ (λ x y. x ++ y) (sym (h.run b tells stands)) (sym (held_chosen v lo hi listed held held_is)))
           (chosen_are b v stands is first last lo hi listed met);
     }
 
@@ -492,7 +510,7 @@ gathered v is told first last lo hi listed held old keys met h held_is added =
 pub all_in_room : (v : SourceView) → IsSource v → (told : Option (List ℕ)) (lo hi : ℕ) (listed : List Bool) (g : GatheredKeys) (room : ℕ)
     (held : List Post) (keys : List ℕ)
     → HasGathered v told lo hi listed g → (g.next < g.last → (room < length g.keys.items) × (length g.keys.items < 2 ^ 64)) → length g.keys.items ≤ room
-    → held ≡ v.held → keys ≡ g.keys.items ++ map (key_of v.index.weights) (filter (is_chosen lo hi listed) held) → AreGathered v told lo hi listed keys
+    → held ≡ filter (is_between lo hi) v.held → keys ≡ g.keys.items ++ map (key_of v.index.weights) (filter (is_chosen lo hi listed) held) → AreGathered v told lo hi listed keys
 all_in_room v is told lo hi listed g room held keys h whole few held_is added =
     let t = is_chosen lo hi listed in
     let le = h.upto in
@@ -506,7 +524,7 @@ all_in_room v is told lo hi listed g room held keys h whole few held_is added =
 -- with room for all numbers there is
 pub all_gathered : (v : SourceView) → IsSource v → (told : Option (List ℕ)) (lo hi : ℕ) (listed : List Bool) (g : GatheredKeys) (held : List Post) (keys : List ℕ)
     → HasGathered v told lo hi listed g → (g.next < g.last → (2 ^ 64 - 1 < length g.keys.items) × (length g.keys.items < 2 ^ 64))
-    → held ≡ v.held → keys ≡ g.keys.items ++ map (key_of v.index.weights) (filter (is_chosen lo hi listed) held) → AreGathered v told lo hi listed keys
+    → held ≡ filter (is_between lo hi) v.held → keys ≡ g.keys.items ++ map (key_of v.index.weights) (filter (is_chosen lo hi listed) held) → AreGathered v told lo hi listed keys
 all_gathered v is told lo hi listed g held keys h whole held_is added =
     let le = h.upto in
     all_in_room v is told lo hi listed g (length g.keys.items) held keys h (λ more. (let w = whole more in absurd (omega (arith, w.0, w.1))))

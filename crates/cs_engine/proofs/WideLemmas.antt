@@ -2,32 +2,47 @@
 --
 --   by_range, by_entry       a query that asks for a wide range alone: its last part, and its own entry
 --   too_large        that is larger than may be kept
+--   wide_held        of words of which what is counted is held there are so many rows
+--   wide_range, wide_fits      what is counted in every document is to be held
 --   range_counts     its hits and its table by what is found of the range
 --   alone_met        what is read for the words is within what is read for the query
-use Rattle.std.proofs.Common.{◌≡◌, ℕ, ◌+◌, ◌-◌, ◌≤◌, not, List, [], length, map, take, get_or, refl, sym, ap, ◌∙◌, arith}
-use Rattle.std.specs.Prelude.{filter, sum}
+use Rattle.std.proofs.Common.{◌≡◌, ℕ, ◌+◌, ◌-◌, ◌≤◌, ◌<◌, ◌==◌, ◌&&◌, ◌||◌, Bool, true, false, true≢false, not, inl, inr, Option, Some, None}
+use Rattle.std.proofs.Common.{List, [], ◌∷◌, length, map, take, get_or, refl, sym, ap, subst, ◌∙◌, arith}
+use Rattle.std.specs.Prelude.{filter, sum, IfSome}
+use Rattle.std.specs.List.{AllByRecursion, list_any}
+use Rattle.std.proofs.lemmas.Bool.{and_parts, eqb-true}
+use Rattle.std.proofs.lemmas.List.Elements.{recursion_from_All}
+use Rattle.std.proofs.lemmas.List.Filters.{length-filter_both}
 use Rattle.std.proofs.lemmas.List.Sums.{sum_by-cons}
 use Rattle.cs_base.specs.declared.content.doc.Base.{Base}
 use Rattle.cs_base.specs.declared.content.doc.Base.TheVariants as base
+use Rattle.cs_base.specs.declared.content.doc.Post.{Post}
 use Rattle.cs_base.specs.declared.content.query.Part.{Part}
 use Rattle.cs_base.specs.declared.content.query.Query.{Query, out-Query}
 use Rattle.cs_file.specs.Indexes.{StandsFor}
 use Rattle.cs_model_kept.specs.Due.{met_of_part, met_of_query}
-use Rattle.cs_model_kept.specs.Entries.{base_of}
+use Rattle.cs_model_kept.specs.Entries.{base_of, listed_count}
 use Rattle.cs_model_kept.specs.KeptListLaws.{before_last}
 use Rattle.cs_model_kept.proofs.EntryLemmas.{parts_read}
 use Rattle.cs_model.specs.Answers.{rows_of_part}
 use Rattle.cs_model_kept.specs.Entries.{entry_of}
 use Rattle.cs_model_kept.specs.KeptList.{kept_fresh}
+use Rattle.cs_model_kept.specs.declared.limits.TheConstants.{MAX_ENTRY_SIZE}
 use Rattle.cs_base.specs.declared.index.plan.Kept.TheVariants as kept
 use Rattle.cs_tables.specs.WordCounts.{WordCountsView}
 use Rattle.cs_engine.specs.Asking.{division}
-use Rattle.cs_engine.specs.Blockwise.{HasFound}
+use Rattle.cs_engine.specs.Blockwise.{HasFound, IsWideFound}
+use Rattle.cs_engine.specs.Counting.{in_listed}
+use Rattle.cs_engine.specs.HeldRanges.{AreHeldOver, IsHeldOver, IsHoldingOver, is_kind, is_range}
+use Rattle.cs_engine.specs.declared.finding.CountedWords.{CountedWords}
+use Rattle.cs_engine.specs.declared.held.HeldRange.{HeldRange}
+use Rattle.cs_engine.specs.declared.held.Holding.{Holding}
+use Rattle.cs_engine.specs.declared.held.Holding.TheVariants as holding
 use Rattle.cs_engine.specs.Sources.{IsSource, SourceView, met_in, seen}
 use Rattle.cs_engine.specs.Loose.{AreCountsFor, AreLastWords, IsEntryByWords}
 use Rattle.cs_engine.specs.Steps.{AreHitsOver}
-use Rattle.cs_engine.specs.Stocked.{corpus_in, is_between}
-use Rattle.cs_engine.specs.Finding.{AsksAlone, AsksWide}
+use Rattle.cs_engine.specs.Stocked.{Stock, base_posts, corpus_in, is_between}
+use Rattle.cs_engine.specs.Finding.{AreWide, AsksAlone, AsksRange}
 use Rattle.cs_engine.proofs.CountingLemmas.{listed_all}
 use Rattle.cs_engine.proofs.EvaluationLemmas.{met_query-is}
 use Rattle.cs_engine.proofs.LooseLemmas.{found_counts, large_entry}
@@ -35,7 +50,7 @@ use Rattle.cs_engine.proofs.OverSources.{all_there}
 use Rattle.cs_engine.proofs.PlansLemmas.{IsLast, ends_last, first_parts, more_by_words}
 
 -- ---- what is asked
-module _ (v : SourceView) (q : Query) (lo hi : ℕ) (asks : AsksWide v q lo hi) where
+module _ (v : SourceView) (q : Query) (lo hi : ℕ) (asks : AsksRange v q lo hi) where
   abbrev ps : List Part
   ps = (out-Query q).parts
 
@@ -64,10 +79,9 @@ module _ (v : SourceView) (q : Query) (lo hi : ℕ) (asks : AsksWide v q lo hi) 
     pub by_entry : IsEntryByWords b v q base.All lo hi
     by_entry = more_by_words q b v stands is asks.part base.All lo hi last none_before asks.positive asks.words
 
-    pub too_large : kept_fresh (entry_of (corpus_in (v.stock b)) q) ≡ kept.TooLarge
-    too_large =
+    pub too_large : MAX_ENTRY_SIZE < length (filter (is_between lo hi) (v.stock b).posts) → kept_fresh (entry_of (corpus_in (v.stock b)) q) ≡ kept.TooLarge
+    too_large many =
         let has = listed_all v.present v.present refl in
-        let many = asks.many b stands in
         large_entry v q base.All lo hi by_range v.present has b stands is by_entry (filter (is_between lo hi) (v.stock b).posts)
         (sym (all_there b v stands is lo hi v.present refl)) (omega (arith, many))
 
@@ -85,3 +99,53 @@ alone_met v q {parts} {lo} {hi} are asks =
     ∙ ap (λ (ps : List Part). sum (map (met_of_part d) ps)) (sym are ∙ asks.alone) ∙ one in
     let few = asks.words.few in
     omega (arith, few, all)
+
+-- ---- what is held, and what is to be held
+module _ (s : Stock) (lo hi : ℕ) where
+  by_what : (w : Holding) → is_kind false w ≡ true → IsHoldingOver s lo hi w → MAX_ENTRY_SIZE < length (filter (is_between lo hi) s.posts)
+  by_what (holding.Rows rows) is over = absurd (true≢false (sym is))
+  by_what (holding.Counted hits counts) is over = over.many
+
+  by_held : (r : HeldRange) → is_range lo hi false r ≡ true → IsHeldOver s r → MAX_ENTRY_SIZE < length (filter (is_between lo hi) s.posts)
+  by_held r is over =
+      let parts = and_parts (r.low == lo && r.high == hi) (is_kind false r.what) is in
+      let ends = and_parts (r.low == lo) (r.high == hi) parts.0 in
+      by_what r.what parts.1 (subst (λ l. IsHoldingOver s l hi r.what) (eqb-true r.low lo ends.0)
+      (subst (λ h. IsHoldingOver s r.low h r.what) (eqb-true r.high hi ends.1) over))
+
+  any_wide : (held : List HeldRange) → list_any (is_range lo hi false) held ≡ true → AllByRecursion (IsHeldOver s) held
+      → MAX_ENTRY_SIZE < length (filter (is_between lo hi) s.posts)
+  any_wide [] any over = absurd (true≢false (sym any))
+  any_wide (r ∷ rs) any over =
+      elim (is_range lo hi false r) as (λ b. is_range lo hi false r ≡ b → (b || list_any (is_range lo hi false) rs) ≡ true
+      → MAX_ENTRY_SIZE < length (filter (is_between lo hi) s.posts)) [
+        | true ↦ λ is rest. by_held r is over.0
+        | false ↦ λ is rest. any_wide rs rest over.1
+      ] refl any
+
+pub wide_held : (v : SourceView) (lo hi : ℕ) (held : List HeldRange) → AreWide v held lo hi → (b : List ℕ) → StandsFor b v.index
+    → AreHeldOver (v.stock b) held → MAX_ENTRY_SIZE < length (filter (is_between lo hi) (v.stock b).posts)
+wide_held v lo hi held wide b stands over = elim wide [
+  | inl many ↦ many b stands
+  | inr any ↦ any_wide (v.stock b) lo hi held any (recursion_from_All (IsHeldOver (v.stock b)) held over)
+]
+
+module _ {hits : Base} {lo hi : ℕ} {counts : WordCountsView} where
+  abbrev Counted : Option CountedWords → Type 0
+  Counted o = IfSome o (λ r. (hits ≡ base.All) × (r ≡ record { low = lo; high = hi; counts = counts }))
+
+  pub wide_range : (posts : List Post) (listed : List Bool) (found : Base) (o : Option CountedWords) → Counted o
+      → MAX_ENTRY_SIZE < length (filter (in_listed listed) (filter (is_between lo hi) posts)) + listed_count hits
+      → HasFound hits (base_posts hits (filter (is_between lo hi) posts)) found counts
+      → IfSome o (λ r. IsWideFound (filter (is_between r.low r.high) posts) found r.counts)
+  wide_range posts listed found None none many has = tt
+  wide_range posts listed found (Some r) some many has =
+      let rows = filter (is_between lo hi) posts in
+      let fewer = length-filter_both (in_listed listed) (λ p. not (in_listed listed p)) (λ p. refl) rows in
+      let none : listed_count hits ≡ 0 = ap listed_count some.0 in
+      subst (λ (x : CountedWords). IsWideFound (filter (is_between x.low x.high) posts) found x.counts) (sym some.1)
+      (record { found = subst (λ x. HasFound x (base_posts x rows) found counts) some.0 has; many = omega (arith, fewer, none, many) })
+
+  pub wide_fits : (words : ℕ) (o : Option CountedWords) → Counted o → counts.high ≤ words → IfSome o (λ r. r.counts.high ≤ words)
+  wide_fits words None none few = tt
+  wide_fits words (Some r) some few = subst (λ (x : CountedWords). x.counts.high ≤ words) (sym some.1) few

@@ -5,9 +5,11 @@
 --   division i           the words of an index and its blocks, of which it is said how many may be read
 --   BreaksIndex i told rule at      the first rule that the bytes of a block break, or rule 9 of the bytes of a title, with its place in the file
 --   IsChangeIn i told e  the fault, if it is a change, tells such a rule and its place
---   titles_read q r      how many titles may be read for a request: those shown, or as many as it asks where it is refused
---   titles_asked q r     the same, where a reply comes with something else
-use Rattle.std.specs.Prelude.{ℕ, ◌<◌, ◌⊎◌, List, length, Option, Result, Ok, Err}
+--   titles_read n q r    how many titles of an index with n documents may be read for a request: those of its documents that are shown, or as
+--                        many as it asks where it is refused
+--   filed_titles n q r   the same, where a reply comes with something else
+--   titles_asked q r     how many titles are shown, whichever documents these are, or as many as it asks where it is refused
+use Rattle.std.specs.Prelude.{ℕ, ◌<◌, ◌⊎◌, List, filter, length, nat_lt, Option, Result, Ok, Err}
 use Rattle.cs_file.specs.CallAnswers.{BreaksBlock, BreaksTitle}
 use Rattle.cs_file.specs.Indexes.{IndexView}
 use Rattle.cs_file.specs.declared.fault.FetchFault.{FetchFault}
@@ -31,12 +33,17 @@ IsChangeIn i told (fetches.Changed rule at) = BreaksIndex i told rule at
 IsChangeIn i told fetches.Read = Unit {0}
 IsChangeIn i told fetches.Memory = Unit {0}
 
--- none where no hit is shown
-abbrev pub titles_read : Request → Result Reply FetchFault → ℕ
-titles_read q (Ok r) = length r.hits
-titles_read q (Err e) = q.hits
+-- none where no hit is shown; documents that aren't the index's have numbers behind its own
+abbrev pub titles_read : ℕ → Request → Result Reply FetchFault → ℕ
+titles_read n q (Ok r) = length (filter (λ h. nat_lt h.doc n) r.hits)
+titles_read n q (Err e) = q.hits
 
 -- the same of a reply with something else, as a note
+abbrev pub filed_titles : {T : Type 0} → ℕ → Request → Result (Reply × T) FetchFault → ℕ
+filed_titles n q (Ok r) = length (filter (λ h. nat_lt h.doc n) r.0.hits)
+filed_titles n q (Err e) = q.hits
+
+-- of an index alone these are all that are read
 abbrev pub titles_asked : {T : Type 0} → Request → Result (Reply × T) FetchFault → ℕ
 titles_asked q (Ok r) = length r.0.hits
 titles_asked q (Err e) = q.hits

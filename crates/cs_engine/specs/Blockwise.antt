@@ -6,6 +6,7 @@
 --   AreMany v lo hi          over the bytes of its index a source's posts with a word from lo up to hi are more than an entry may have
 --   CountsTable rows t       what is counted gives the table of rows
 --   HasFound b rows hits t   the documents of rows with their scores over a base, and what gives the table of the rows
+--   IsWideFound rows hits t  the same over every document, of more rows than an entry may have
 use Rattle.std.specs.Prelude.{◌≡◌, ℕ, ◌+◌, ◌<◌, ◌&&◌, nat_le, List, length, filter, if◌then◌else◌}
 use Rattle.cs_base.specs.declared.content.doc.Base.{Base}
 use Rattle.cs_base.specs.declared.content.doc.Base.TheVariants as base
@@ -38,3 +39,8 @@ pub record CountsTable (rows : List Post) (t : WordCountsView) : Type 0 where
 pub record HasFound (b : Base) (rows : List Post) (hits : Base) (t : WordCountsView) : Type 0 where
   pub hits_are : hits ≡ base.Listed (doc_scores b rows)
   pub table : CountsTable rows t
+
+-- those of a range of words; a query of these words alone has an entry that is too large
+pub record IsWideFound (rows : List Post) (hits : Base) (t : WordCountsView) : Type 0 where
+  pub found : HasFound base.All rows hits t
+  pub many : MAX_ENTRY_SIZE < length rows

@@ -4,14 +4,14 @@
 --
 --   CanFind told v q        the query is within its limits, and the source can be read over a store that tells so
 --   CanOwn v q e            an entry is in the range of the source, as that of the query is
---   AsksAlone v ps lo hi    these parts ask for the words from lo up to hi alone, which have more rows than an entry may
---   AsksWide v q lo hi      the query's parts do
+--   AsksAlone v ps lo hi    these parts ask for the words from lo up to hi alone
+--   AsksRange v q lo hi     the query's parts do
+--   AreWide v held lo hi    these words have more rows than an entry may, or what is counted of them is held
 --   FitsFound i q f         over each store: hits, table, own entry and counted words are in the range of the index
 --   IsFoundOver b v q cut p f     over the bytes of its index f is what is found of a query by the plan p
 --   IsFoundAnew b v q cut f       by whatever plan
-use Rattle.std.specs.Prelude.{◌≡◌, ℕ, ◌*◌, ◌<◌, ◌≤◌, false, List, [], ◌∷◌, filter, length, Option, is_some, IfSome}
-use Rattle.std.specs.List.{All}
-use Rattle.cs_base.specs.declared.content.doc.Base.TheVariants as base
+use Rattle.std.specs.Prelude.{◌≡◌, ◌⊎◌, ℕ, ◌*◌, ◌<◌, ◌≤◌, false, true, List, [], ◌∷◌, filter, length, Option, is_some, IfSome}
+use Rattle.std.specs.List.{All, list_any}
 use Rattle.cs_base.specs.declared.content.doc.Post.{Post}
 use Rattle.cs_base.specs.declared.content.limits.TheConstants.{MAX_PARTS}
 use Rattle.cs_base.specs.declared.content.query.Part.{Part, out-Part}
@@ -26,7 +26,8 @@ use Rattle.cs_model_kept.specs.Due.{met_of_part}
 use Rattle.cs_model_kept.specs.Entries.{EntryOf, entry_of}
 use Rattle.cs_model_kept.specs.KeptList.{is_same, kept_fresh}
 use Rattle.cs_engine.specs.Asking.{division}
-use Rattle.cs_engine.specs.Blockwise.{AreMany, HasFound}
+use Rattle.cs_engine.specs.Blockwise.{AreMany, IsWideFound}
+use Rattle.cs_engine.specs.HeldRanges.{is_range}
 use Rattle.cs_engine.specs.Keeping.{FitsQuery, IsEntryOver}
 use Rattle.cs_engine.specs.Loose.{IsTableFor}
 use Rattle.cs_engine.specs.Plain.{AreWordsOf}
@@ -34,6 +35,7 @@ use Rattle.cs_engine.specs.Sources.{CanRead, IsSource, SourceView, seen}
 use Rattle.cs_engine.specs.Steps.{IsBaseOf}
 use Rattle.cs_engine.specs.Stocked.{corpus_in, is_between}
 use Rattle.cs_engine.specs.declared.finding.QueryFound.{QueryFound}
+use Rattle.cs_engine.specs.declared.held.HeldRange.{HeldRange}
 
 -- whatever is asked for
 pub record CanFind (told : Option (List ℕ)) (v : SourceView) (q : Query) : Type 0 where
@@ -53,11 +55,14 @@ pub record AsksAlone (v : SourceView) (ps : List Part) (lo hi : ℕ) : Type 0 wh
   pub alone : ps ≡ part ∷ []
   pub positive : (out-Part part).excluded ≡ false
   pub words : AreWordsOf v (met_of_part (division v.index) part) (λ k. (rows_of_part k part).rows) lo hi
-  pub many : AreMany v lo hi
 
 -- not so without a part
-abbrev pub AsksWide : SourceView → Query → ℕ → ℕ → Type 0
-AsksWide v q lo hi = AsksAlone v (out-Query q).parts lo hi
+abbrev pub AsksRange : SourceView → Query → ℕ → ℕ → Type 0
+AsksRange v q lo hi = AsksAlone v (out-Query q).parts lo hi
+
+-- only of words with so many rows what is counted is held
+abbrev pub AreWide : SourceView → List HeldRange → ℕ → ℕ → Type 0
+AreWide v held lo hi = AreMany v lo hi ⊎ (list_any (is_range lo hi false) held ≡ true)
 
 -- whatever store it was read from
 pub record FitsFound (i : IndexView) (q : Query) (f : QueryFound) : Type 0 where
@@ -71,7 +76,7 @@ pub record IsFoundOver (b : List ℕ) (v : SourceView) (q : Query) (cut : ℕ) (
   pub table : IsTableFor v b q cut f.hits f.table
   pub own : IfSome f.own (IsEntryOver (corpus_in (v.stock b)) (seen v) q)
   pub large : is_some f.own ≡ false → is_same p ≡ false → kept_fresh (entry_of (corpus_in (v.stock b)) q) ≡ kept.TooLarge
-  pub range : IfSome f.range (λ r. HasFound base.All (filter (is_between r.low r.high) (v.stock b).posts) f.hits r.counts)
+  pub range : IfSome f.range (λ r. IsWideFound (filter (is_between r.low r.high) (v.stock b).posts) f.hits r.counts)
 
 -- by each plan
 abbrev pub IsFoundAnew : List ℕ → SourceView → Query → ℕ → QueryFound → Type 0

@@ -19,12 +19,11 @@
 --   AreHeldOver s rs     each of the held ones is
 use Rattle.std.specs.Prelude.{◌≡◌, ◌⊎◌, ℕ, ◌+◌, ◌-◌, ◌*◌, ◌<◌, ◌≤◌, ◌==◌, ◌&&◌, Bool, true, not, List, [], ◌∷◌, ◌++◌, filter, length, take, slice_index_or}
 use Rattle.std.specs.List.{All, Contains}
-use Rattle.cs_base.specs.declared.content.doc.Base.TheVariants as base
 use Rattle.cs_base.specs.declared.content.limits.TheConstants.{MAX_PARTS}
 use Rattle.cs_base.specs.declared.content.scores.TheConstants.{MAX_ROW_SCORE}
 use Rattle.cs_file.specs.Indexes.{IndexView}
 use Rattle.cs_model_kept.specs.Entries.{listed_count}
-use Rattle.cs_engine.specs.Blockwise.{HasFound}
+use Rattle.cs_engine.specs.Blockwise.{IsWideFound}
 use Rattle.cs_engine.specs.IndexReading.{AreWithin}
 use Rattle.cs_engine.specs.Steps.{IsBaseOf}
 use Rattle.cs_engine.specs.Stocked.{Stock, is_between}
@@ -95,10 +94,10 @@ FitsHolding i (holding.Counted hits counts) = IsBaseOf i.docs (MAX_ROW_SCORE * M
 abbrev pub FitsRange : IndexView → HeldRange → Type 0
 FitsRange i r = FitsHolding i r.what
 
--- the rows in order; the hits as of a query of these words alone
+-- the rows in order; the hits as of a query of these words alone, whose own entry is too large
 abbrev pub IsHoldingOver : Stock → ℕ → ℕ → Holding → Type 0
 IsHoldingOver s lo hi (holding.Rows rows) = rows.posts ≡ filter (is_between lo hi) s.posts
-IsHoldingOver s lo hi (holding.Counted hits counts) = HasFound base.All (filter (is_between lo hi) s.posts) hits counts
+IsHoldingOver s lo hi (holding.Counted hits counts) = IsWideFound (filter (is_between lo hi) s.posts) hits counts
 
 -- by both ends of the range
 abbrev pub IsHeldOver : Stock → HeldRange → Type 0

@@ -10,11 +10,13 @@
 --   HoldMet v lo hi test     each of these blocks holds a word of the index that passes
 --   all_rows v b          the rows of all blocks, one block behind the other, and the rows in memory behind them
 --   is_there present p   the post's document is there
+--   title_reads v d      how often a store is read for the title of a document: once where the index has it, and else not at all
+--   filed_hits v hs      how many of these hits the index has
 --   IsIn v p             a row in memory is in range, and its document is there
 --   IsTold v b           what always holds of rows over the bytes of the index
 --   IsSource v           what always holds of a source
 --   CanRead told v       it is one, and a store that tells has all its blocks
-use Rattle.std.specs.Prelude.{◌≡◌, ℕ, ◌+◌, ◌-◌, ◌≤◌, ◌<◌, Bool, true, false, List, [], ◌++◌, length, filter, flat_map, take, drop, replicate, slice_index_or}
+use Rattle.std.specs.Prelude.{◌≡◌, ℕ, ◌+◌, ◌-◌, ◌≤◌, ◌<◌, Bool, true, false, nat_lt, if◌then◌else◌, List, [], ◌++◌, length, filter, flat_map, take, drop, replicate, slice_index_or}
 use Rattle.std.specs.Prelude.{Option}
 use Rattle.std.specs.List.{All, list_any}
 use Rattle.std.specs.List.Sorted.{IsStrictlySortedBy}
@@ -22,6 +24,7 @@ use Rattle.std.specs.Ordering.{nat_cmp}
 use Rattle.std.specs.Cmp.Lexicographic.{slice_cmp}
 use Rattle.std.specs.Str.{IsUtf8, bytes_eq}
 use Rattle.cs_base.specs.declared.content.doc.Post.{Post}
+use Rattle.cs_base.specs.declared.content.doc.Scored.{Scored}
 use Rattle.cs_base.specs.declared.content.limits.TheConstants.{MAX_DOCS, MAX_WORDS}
 use Rattle.cs_base.specs.declared.index.block.BlockHead.{BlockHead}
 use Rattle.cs_file.specs.CallAnswers.{IsRanged}
@@ -89,6 +92,14 @@ all_rows v b = flat_map (λ block. block) (v.blocks b) ++ v.held
 -- not so behind the last number
 abbrev pub is_there : List Bool → Post → Bool
 is_there present p = slice_index_or present p.doc false
+
+-- none of a number that is no document's
+abbrev pub title_reads : SourceView → ℕ → ℕ
+title_reads v d = if nat_lt d v.index.docs then 1 else 0
+
+-- of no hits 0
+abbrev pub filed_hits : SourceView → List Scored → ℕ
+filed_hits v hs = length (filter (λ h. nat_lt h.doc v.index.docs) hs)
 
 -- with the position and the score of a facet word or of any other
 pub record IsIn (v : SourceView) (p : Post) : Type 0 where

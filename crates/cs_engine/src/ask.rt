@@ -6,7 +6,7 @@ ghost use Rattle.cs_file.specs.declared.fault.FetchFault.TheVariants as fetches;
 ghost use Rattle.cs_model.specs.Parameters.{HoldsLimits};
 ghost use Rattle.cs_model_kept.specs.{Due.{due}, KeptList.{plan_by, is_same}};
 ghost use Rattle.cs_query.specs.RequestView.{asked};
-ghost use Rattle.cs_engine.specs.{Asking.{division, titles_asked}, HeldRanges.{FitsRange, HoldsMore, range_bytes}, IndexReading.{OnlyReads, WhereStood}};
+ghost use Rattle.cs_engine.specs.{Asking.{division, filed_titles}, HeldRanges.{FitsRange, HoldsMore, range_bytes}, IndexReading.{OnlyReads, WhereStood}};
 ghost use Rattle.cs_engine.specs.{Skipping.{hit_reads}, Sources.{CanRead, seen}, Stocked.{corpus_in}};
 ghost use Rattle.cs_engine.specs.declared.held.Holding.TheVariants as holding;
 ghost use Rattle.cs_engine.specs.declared.held.TheConstants.{MAX_HELD_BYTES};
@@ -51,13 +51,13 @@ pub fn ask_over<I: Source, S: Store>(
     ensures store { OnlyReads S.bytes S.lent S.faults (I.view over.entry.index.now).index store.old store.new result }
     ensures reads { ReadsWithin
         (due (division (I.view over.entry.index.now).index) (asked over.entry.request.now) (note_plan over.entry.request.now.query answers.old)
-        (titles_asked (asked over.entry.request.now) result))
+        (filed_titles (I.view over.entry.index.now).index.docs (asked over.entry.request.now) result))
         (S.reads store.old) (S.reads store.new) }
     ensures sharp { WhereStood (S.bytes store.old) (I.view over.entry.index.now).index
         (λ b. (let s = (I.view over.entry.index.now).stock b in AreGoodFor (corpus_in s) s
         (engine_with (seen (I.view over.entry.index.now)) answers.old held.old)
         → ReadsWithin (hit_reads (division (I.view over.entry.index.now).index) (corpus_in s) (asked over.entry.request.now)
-        (note_plan over.entry.request.now.query answers.old) (titles_asked (asked over.entry.request.now) result)) (S.reads store.old) (S.reads store.new))) }
+        (note_plan over.entry.request.now.query answers.old) (filed_titles (I.view over.entry.index.now).index.docs (asked over.entry.request.now) result)) (S.reads store.old) (S.reads store.new))) }
     ensures bounded { range_bytes held.new ≤ MAX_HELD_BYTES }
     ensures given { result ≡ Err fetches.Memory → held.new ≡ [] }
 {
@@ -92,13 +92,13 @@ fn noted_reply<I: Source, S: Store>(
     ensures store { OnlyReads S.bytes S.lent S.faults (I.view over.entry.index.now).index store.old store.new result }
     ensures reads { ReadsWithin
         (due (division (I.view over.entry.index.now).index) (asked over.entry.request.now) (note_plan over.entry.request.now.query answers.old)
-        (titles_asked (asked over.entry.request.now) result))
+        (filed_titles (I.view over.entry.index.now).index.docs (asked over.entry.request.now) result))
         (S.reads store.old) (S.reads store.new) }
     ensures sharp { WhereStood (S.bytes store.old) (I.view over.entry.index.now).index
         (λ b. (let s = (I.view over.entry.index.now).stock b in AreGoodFor (corpus_in s) s
         (engine_with (seen (I.view over.entry.index.now)) answers.old held.old)
         → ReadsWithin (hit_reads (division (I.view over.entry.index.now).index) (corpus_in s) (asked over.entry.request.now)
-        (note_plan over.entry.request.now.query answers.old) (titles_asked (asked over.entry.request.now) result)) (S.reads store.old) (S.reads store.new))) }
+        (note_plan over.entry.request.now.query answers.old) (filed_titles (I.view over.entry.index.now).index.docs (asked over.entry.request.now) result)) (S.reads store.old) (S.reads store.new))) }
 {
     let RequestOver {
         alloc,

@@ -87,7 +87,7 @@ pub(crate) fn found_behind<I: Source, S: Store>(
         counts.add_rows(&block.docs, &block.words, listed);
         raise_rows(&mut best, words, listed, &block);
     }
-    let held = index.held();
+    let held = index.held(words);
     count_chosen(&mut counts, held, words, listed);
     raise_held(&mut best, held, words, listed);
     let scored = scored_in(alloc, hits, &best)?;

@@ -126,7 +126,7 @@ fn counted_in_hits<I: Source, S: Store>(
     let gathered = gather_keys(alloc, index, store, words, base, listed, usize::MAX)?;
     let mut counts = WordCounts::new(alloc, words.0, words.1)?;
     count_keys(&mut counts, &gathered.keys);
-    count_chosen(&mut counts, index.held(), words, listed);
+    count_chosen(&mut counts, index.held(words), words, listed);
     Ok(counts)
 }
 

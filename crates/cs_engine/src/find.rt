@@ -100,7 +100,7 @@ fn find_fresh<I: Source, S: Store>(
         let found = found_with(over, entry)?;
         return Ok(found);
     }
-    if let Some(words) = wide_words(over.index, parts) {
+    if let Some(words) = wide_words(over.index, held, parts) {
         let found = find_range(over, store, words, held)?;
         return Ok(found);
     }

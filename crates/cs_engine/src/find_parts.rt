@@ -1,19 +1,18 @@
 //! Finding by the parts of a query, the last one by what it asks for. Where its own entry is too large, its rows are brought into no
 //! order.
-ghost use Rattle.std.specs.Prelude.{◌≡◌, ◌+◌, ◌-◌, ◌*◌, ◌≤◌, ◌<◌, nat_lt, length, IfOk};
-ghost use Rattle.std.specs.List.{All};
-ghost use Rattle.cs_base.specs.declared.content.limits.TheConstants.{MAX_PARTS};
+ghost use Rattle.std.specs.Prelude.{◌≡◌, ◌+◌, ◌-◌, ◌*◌, ◌≤◌, ◌<◌, nat_lt, filter, length, IfOk, IfSome};
+ghost use Rattle.cs_base.specs.declared.content.doc.Base.TheVariants as base;
 ghost use Rattle.cs_base.specs.{outside.Causes.{ReadsWithin}, declared.content.scores.TheConstants.{MAX_ROW_SCORE}, declared.content.query.Query.{out-Query}};
 ghost use Rattle.cs_model.specs.Keys.{last_of};
-ghost use Rattle.cs_model_kept.specs.KeptListLaws.{before_last};
-ghost use Rattle.cs_engine.specs.{Asking.{division}, Counting.{AreListed}, Finding.{CanFind, FitsFound, IsFoundAnew}, GatheredRows.{HasGathered}};
-ghost use Rattle.cs_engine.specs.{IndexReading.{OnlyReads, WhereStood}, Loose.{AreLastWords, IsEntryByWords, IsTableFor}};
-ghost use Rattle.cs_engine.specs.{Skipping.{hit_blocks, hit_met, hit_of_last}, Sources.{seen}, Steps.{AreHitsOver, IsBaseOf}};
+ghost use Rattle.cs_model_kept.specs.{Entries.{listed_count}, KeptListLaws.{before_last}, declared.limits.TheConstants.{MAX_ENTRY_SIZE}};
+ghost use Rattle.cs_engine.specs.{Asking.{division}, Counting.{AreListed, in_listed}, Finding.{CanFind, FitsFound, IsFoundAnew}, GatheredRows.{HasGathered}};
+ghost use Rattle.cs_engine.specs.{IndexReading.{OnlyReads, WhereStood}, Loose.{AreLastWords, IsEntryByWords}};
+ghost use Rattle.cs_engine.specs.{Skipping.{hit_blocks, hit_met, hit_of_last}, Sources.{seen}, Steps.{AreHitsOver, IsBaseOf}, Stocked.{is_between}};
 
 use crate::blockwise::found_behind;
 use crate::chosen::{many_chosen, pack_chosen};
 use crate::counting::listed_docs;
-use crate::finding::{QueryFound, QueryOver, found_with};
+use crate::finding::{CountedWords, QueryFound, QueryOver, found_with};
 use crate::gathering::{GatheredKeys, gather_keys};
 use crate::hits::{listed_count, lists_none};
 use crate::packing::ordered;
@@ -25,7 +24,7 @@ use cs_cache::Entry;
 use cs_cols::Cols;
 use cs_file::FetchFault;
 use cs_model_kept::MAX_ENTRY_SIZE;
-use cs_tables::Table;
+use cs_tables::WordCounts;
 
 /// What is found of a query by the hits of its parts before the last, whose atoms are read. Without a hit nothing is read, and for an atom
 /// that is no join no block that no hit reaches.
@@ -86,15 +85,10 @@ fn find_words<I: Source, S: Store>(
     let marks: &[bool] = &listed;
     let room = MAX_ENTRY_SIZE.saturating_sub(listed_count(&hits));
     let mut gathered = gather_keys(alloc, index, store, words, &hits, marks, room)?;
-    let held = index.held();
+    let held = index.held(words);
     if are_more(gathered.keys.len(), many_chosen(held, words, marks), room) {
-        let (hits, table) = find_behind(over, store, &hits, words, marks, &gathered)?;
-        return Ok(QueryFound {
-            hits,
-            table,
-            own: None,
-            range: None,
-        });
+        let found = find_behind(over, store, &hits, words, marks, &gathered)?;
+        return Ok(found);
     }
     pack_chosen(weights, held, words, marks, &mut gathered.keys)?;
     let rows = ordered(alloc, weights, gathered.keys)?;
@@ -110,8 +104,8 @@ fn are_more(some: usize, others: usize, room: usize) -> bool
     some as u128 + others as u128 > room as u128
 }
 
-// The hits and the table of a query whose last part asks for these words, by what was gathered of their first blocks, by the rest of the
-// blocks, and by the hits of the parts before it.
+// What is found of a query whose last part asks for these words, by what was gathered of their first blocks, by the rest of the blocks, and
+// by the hits of the parts before it. Its own entry is too large; where each document is a hit before it, these words are to be held.
 fn find_behind<I: Source, S: Store>(
     over: QueryOver<'_, I>,
     store: &mut S,
@@ -119,7 +113,7 @@ fn find_behind<I: Source, S: Store>(
     words: (u32, u32),
     listed: &[bool],
     gathered: &GatheredKeys,
-) -> Result<(Base, Table), FetchFault>
+) -> Result<QueryFound, FetchFault>
     requires asks { AreLastWords (seen (I.view over.index.now)) over.query.now hits.now words.0 words.1 }
     requires listed { AreListed (I.view over.index.now).present hits.now listed.now }
     requires gathered { HasGathered (I.view over.index.now) (S.bytes store.old) words.0 words.1 listed.now gathered.now }
@@ -127,9 +121,10 @@ fn find_behind<I: Source, S: Store>(
 
     ensures told { WhereStood (S.bytes store.old) (I.view over.entry.index.now).index
         (λ b. IsEntryByWords b (I.view over.entry.index.now) over.entry.query.now hits.now words.0 words.1
-        → IfOk result (λ f. IsTableFor (I.view over.entry.index.now) b over.entry.query.now over.entry.cut f.0 f.1)) }
-    ensures base { IfOk result (λ f. IsBaseOf (I.view over.entry.index.now).docs (MAX_ROW_SCORE * MAX_PARTS) f.0) }
-    ensures table { IfOk result (λ f. All (λ w. w.word < length (I.view over.entry.index.now).words) f.1.first) }
+        → MAX_ENTRY_SIZE < length (filter (in_listed listed.now) (filter (is_between words.0 words.1) ((I.view over.entry.index.now).stock b).posts))
+        + listed_count hits.now
+        → IfOk result (IsFoundAnew b (I.view over.entry.index.now) over.entry.query.now over.entry.cut)) }
+    ensures fits { IfOk result (FitsFound (seen (I.view over.entry.index.now)) over.entry.query.now) }
     ensures store { OnlyReads S.bytes S.lent S.faults (I.view over.entry.index.now).index store.old store.new result }
     ensures reads { ReadsWithin (hit_blocks hits.now (I.view over.entry.index.now).index.heads gathered.now.next gathered.now.last)
         (S.reads store.old) (S.reads store.new) }
@@ -137,5 +132,24 @@ fn find_behind<I: Source, S: Store>(
     let QueryOver { alloc, index, .. } = over;
     let (found, counts) = found_behind(alloc, index, store, hits, words, listed, gathered)?;
     let table = counts.table(alloc, over.cut)?;
-    Ok((found, table))
+    Ok(QueryFound {
+        hits: found,
+        table,
+        own: None,
+        range: counted_in_all(hits, words, counts),
+    })
+}
+
+// Counted words of a range, where they are counted in every document.
+fn counted_in_all(hits: &Base, words: (u32, u32), counts: WordCounts) -> Option<CountedWords>
+    ensures { IfSome result (λ r. (hits.now ≡ base.All) × (r ≡ record { low = words.0; high = words.1; counts = counts })) }
+{
+    match hits {
+        Base::All => Some(CountedWords {
+            low: words.0,
+            high: words.1,
+            counts,
+        }),
+        Base::Listed(_) => None,
+    }
 }

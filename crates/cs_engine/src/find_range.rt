@@ -4,7 +4,7 @@ ghost use Rattle.std.specs.List.{All};
 ghost use Rattle.cs_base.specs.declared.content.doc.Base.TheVariants as base;
 ghost use Rattle.cs_base.specs.declared.content.{limits.TheConstants.{MAX_PARTS}, scores.TheConstants.{MAX_ROW_SCORE}};
 ghost use Rattle.cs_base.specs.outside.Causes.{ReadsWithin};
-ghost use Rattle.cs_engine.specs.{Blockwise.{HasFound}, Finding.{AsksAlone, AsksWide, CanFind, FitsFound, IsFoundAnew}};
+ghost use Rattle.cs_engine.specs.{Blockwise.{HasFound}, Finding.{AreWide, AsksAlone, AsksRange, CanFind, FitsFound, IsFoundAnew}};
 ghost use Rattle.cs_engine.specs.{HeldRanges.{AreHeldOver, FitsRange, OnlyGoes}, IndexReading.{IsWordRange, OnlyReads, WhereStood}};
 ghost use Rattle.cs_engine.specs.{Sources.{CanRead, IsSource, met_in, seen}, Steps.{IsBaseOf}, Stocked.{is_between}};
 
@@ -20,11 +20,16 @@ use cs_file::FetchFault;
 use cs_tables::WordCounts;
 use std::alloc::Global;
 
-/// The words that a query of these parts asks for alone, where they are many.
-pub(crate) fn wide_words<I: Source>(index: &I, parts: &[Part]) -> Option<(u32, u32)>
+/// The words that a query of these parts asks for alone, where they are many, or what is counted of them is held.
+pub(crate) fn wide_words<I: Source>(
+    index: &I,
+    held: &Holder,
+    parts: &[Part],
+) -> Option<(u32, u32)>
     requires { IsSource (I.view index.now) }
 
-    ensures { IfSome result (λ w. AsksAlone (I.view index.now) parts.now w.0 w.1) }
+    ensures alone { IfSome result (λ w. AsksAlone (I.view index.now) parts.now w.0 w.1) }
+    ensures wide { IfSome result (λ w. AreWide (I.view index.now) held.now w.0 w.1) }
 {
     let [part] = parts else {
         return None;
@@ -32,7 +37,7 @@ pub(crate) fn wide_words<I: Source>(index: &I, parts: &[Part]) -> Option<(u32, u
     let Some(words) = words_of_part(index, part) else {
         return None;
     };
-    if index.are_many(words) {
+    if held.has_counted(words) || index.are_many(words) {
         return Some(words);
     }
     None
@@ -46,7 +51,8 @@ pub(crate) fn find_range<I: Source, S: Store>(
     words: (u32, u32),
     held: &mut Holder,
 ) -> Result<QueryFound, FetchFault>
-    requires asks { AsksWide (I.view over.index.now) over.query.now words.0 words.1 }
+    requires asks { AsksRange (I.view over.index.now) over.query.now words.0 words.1 }
+    requires wide { AreWide (I.view over.index.now) held.old words.0 words.1 }
     requires held { All (FitsRange (seen (I.view over.index.now))) held.old }
     requires over { CanFind (S.bytes store.old) (I.view over.index.now) over.query.now }
 

@@ -84,6 +84,13 @@ impl Holder {
         Some(range.what)
     }
 
+    /// Whether what is counted of these words is held.
+    pub(crate) fn has_counted(&self, words: (u32, u32)) -> bool
+        ensures { result ≡ list_any (is_range words.0 words.1 false) self.now }
+    {
+        place_of(&self.ranges, words, false).is_some()
+    }
+
     /// Holds a range. Where more than the bound would be held, those go that weren't used for longest, and one that is larger by itself
     /// isn't held; nor is it where memory for its place is wanted.
     pub(crate) fn hold(&mut self, range: HeldRange)

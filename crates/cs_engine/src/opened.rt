@@ -30,7 +30,7 @@ impl Source for Index {
         doc < self.docs
     }
 
-    fn held(&self) -> &[Post] {
+    fn held(&self, _: (u32, u32)) -> &[Post] {
         &[]
     }
 

@@ -73,6 +73,6 @@ fn best_in_blocks<I: Source, S: Store>(
         index.fetch_scored(alloc, store, k, &mut block)?;
         raise_rows(&mut best, words, listed, &block);
     }
-    raise_held(&mut best, index.held(), words, listed);
+    raise_held(&mut best, index.held(words), words, listed);
     Ok(best)
 }

@@ -6,7 +6,7 @@ ghost use Rattle.cs_base.specs.declared.content.limits.TheConstants.{MAX_PARTS};
 ghost use Rattle.cs_model.specs.Requests.{hit_shown, reply_of};
 ghost use Rattle.cs_query.specs.RequestView.{asked};
 ghost use Rattle.cs_engine.specs.{Asking.{division, titles_read}, Counting.{AreListed}, HeldRanges.{AreHeldOver, FitsRange}, Loose.{IsTableFor}};
-ghost use Rattle.cs_engine.specs.{IndexReading.{OnlyReads, WhereStood}, Skipping.{hit_of_facet, hit_of_facets}, Sources.{CanRead, seen}, Steps.{IsBaseOf}, Stocked.{corpus_in, facet_at}};
+ghost use Rattle.cs_engine.specs.{IndexReading.{OnlyReads, WhereStood}, Skipping.{hit_of_facet, hit_of_facets}, Sources.{CanRead, filed_hits, seen}, Steps.{IsBaseOf}, Stocked.{corpus_in, facet_at}};
 
 use crate::counting::listed_docs;
 use crate::facets::counted_facet;
@@ -62,7 +62,7 @@ pub(crate) fn show<I: Source, S: Store>(
     ensures good { WhereStood (S.bytes store.old) (I.view over.entry.index.now).index
         (λ b. AreHeldOver ((I.view over.entry.index.now).stock b) held.old → AreHeldOver ((I.view over.entry.index.now).stock b) held.new) }
     ensures store { OnlyReads S.bytes S.lent S.faults (I.view over.entry.index.now).index store.old store.new result }
-    ensures reads { ReadsWithin (titles_read (asked over.entry.request.now) result
+    ensures reads { ReadsWithin (titles_read (I.view over.entry.index.now).index.docs (asked over.entry.request.now) result
         + hit_of_facets (division (I.view over.entry.index.now).index) hits.now (asked over.entry.request.now).facets) (S.reads store.old) (S.reads store.new) }
 {
     let RequestOver {
@@ -164,7 +164,7 @@ fn shown_facet<I: Source, S: Store>(
     })
 }
 
-// Hits with their titles, each of which is read once.
+// Hits with their titles. Each title that the index has is read once, and no other.
 fn shown_hits<I: Source, S: Store>(
     alloc: Global,
     index: &I,
@@ -176,9 +176,9 @@ fn shown_hits<I: Source, S: Store>(
 
     ensures told { WhereStood (S.bytes store.old) (I.view index.now).index (λ b. IfOk result
         (λ shown. shown ≡ map (hit_shown (corpus_in ((I.view index.now).stock b))) hits.now)) }
-    ensures count { IfOk result (λ shown. length shown ≡ length hits.now) }
+    ensures docs { IfOk result (λ shown. map (λ s. s.doc) shown ≡ map (λ h. h.doc) hits.now) }
     ensures store { OnlyReads S.bytes S.lent S.faults (I.view index.now).index store.old store.new result }
-    ensures reads { ReadsWithin (length hits.now) (S.reads store.old) (S.reads store.new) }
+    ensures reads { ReadsWithin (filed_hits (I.view index.now) hits.now) (S.reads store.old) (S.reads store.new) }
 {
     let mut shown = Seq::new(alloc);
     for hit in hits {

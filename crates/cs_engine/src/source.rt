@@ -10,7 +10,7 @@ ghost use Rattle.cs_file.specs.Indexes.{AreMet, HasAllBlocks, StandsFor};
 ghost use Rattle.cs_model_index.specs.Numbered.{word_at};
 ghost use Rattle.cs_tables.specs.WordCounts.{is_chosen};
 ghost use Rattle.cs_vocab.specs.Ranges.{IsRange};
-ghost use Rattle.cs_engine.specs.{Blockwise.{AreMany}, IndexReading.{IsSpanOf, IsWordRange, OnlyReads}, Skipping.{no_head}, Sources.{SourceView, seen}, Stocked.{title_at}};
+ghost use Rattle.cs_engine.specs.{Blockwise.{AreMany}, IndexReading.{IsSpanOf, IsWordRange, OnlyReads}, Skipping.{no_head}, Sources.{SourceView, seen, title_reads}, Stocked.{is_between, title_at}};
 
 use cs_base::{BlockHead, Memory, Post, Store, Text, Weights};
 use cs_file::{FetchFault, Fetched, Sought};
@@ -39,9 +39,9 @@ pub trait Source {
 
         ensures { result ≡ slice_index_or (view self.now).present doc false };
 
-    /// The rows in memory.
-    fn held(&self) -> &[Post]
-        ensures { result.now ≡ (view self.now).held };
+    /// The rows in memory whose word's number is `words.0` or more and below `words.1`.
+    fn held(&self, words: (u32, u32)) -> &[Post]
+        ensures { result.now ≡ filter (is_between words.0 words.1) (view self.now).held };
 
     /// The words that begin with `p`: from the first number up to the second, which is left out.
     fn range(&self, p: &[u8]) -> (u32, u32)
@@ -124,7 +124,7 @@ pub trait Source {
             (IsChangeOfBlock (view self.now).index (S.bytes store.old) k) store.old store.new result }
         ensures reads { ReadsWithin 1 (S.reads store.old) (S.reads store.new) };
 
-    /// The title of a document.
+    /// The title of a document. It is read where the index has the document, and else it is in memory.
     fn title<S: Store>(&self, alloc: Global, store: &mut S, doc: u32) -> Result<Text, FetchFault>
         requires in_range { doc < (view self.now).docs }
         requires fits { HasAllBlocks (S.bytes store.old) (view self.now).index }
@@ -133,5 +133,5 @@ pub trait Source {
         ensures stood { ForSome (S.bytes store.old) (λ b. StandsFor b (view self.now).index
             → IfOk result (λ t. t ≡ title_at ((view self.now).stock b).titles doc)) }
         ensures store { OnlyReads S.bytes S.lent S.faults (view self.now).index store.old store.new result }
-        ensures reads { ReadsWithin 1 (S.reads store.old) (S.reads store.new) };
+        ensures reads { ReadsWithin (title_reads (view self.now) doc) (S.reads store.old) (S.reads store.new) };
 }

@@ -1,12 +1,12 @@
 use Rattle.std.proofs.Common.{◌≡◌, ◌∙◌, ap, subst, sym, arith, length}
-use Rattle.std.specs.Prelude.{IfOk}
+use Rattle.std.specs.Prelude.{IfOk, filter, nat_lt}
 use Rattle.cs_base.specs.declared.content.doc.Base.{Base}
 use Rattle.cs_model.specs.Requests.{reply_of}
 use Rattle.cs_model_kept.specs.Due.{met_by}
 use Rattle.cs_model_kept.specs.KeptList.{after, kept_at}
 use Rattle.cs_model_kept.specs.Sharp.{sharp_by}
 use Rattle.cs_query.specs.RequestView.{asked}
-use Rattle.cs_engine.specs.Asking.{division, titles_asked, titles_read}
+use Rattle.cs_engine.specs.Asking.{division, filed_titles, titles_read}
 use Rattle.cs_engine.specs.HeldRanges.{FitsRange, IsHeldOver}
 use Rattle.cs_engine.specs.Keeping.{HoldsGood, IsKeptBehind, KeepsFitting, note_plan}
 use Rattle.cs_engine.specs.Skipping.{hit_of_facets}
@@ -39,7 +39,7 @@ returns-in_err-found-clause-reads g c =
     let plan = is_note_plan i r.query c.requires.limits.query c.args.answers.now c.in_ok-keys.keys c.in_ok-keys.ensures.ok c.look-plan.result c.look-plan.ensures in
     let same = ap (met_by (division (g.I.Source.view c.args.over.index.now).index) r.query) plan in
     let all = due_is (division (g.I.Source.view c.args.over.index.now).index) r (note_plan r.query c.args.answers.now)
-    (titles_asked r c.from_residual-in_err-found.result) in
+    (filed_titles (g.I.Source.view c.args.over.index.now).index.docs r c.from_residual-in_err-found.result) in
     within_more c.find_by.ensures.reads (omega (arith, all, same))
 
 -- ---- nothing is shown
@@ -69,9 +69,9 @@ returns-in_err-reply-clause-reads g c =
     let plan = is_note_plan i r.query c.requires.limits.query c.args.answers.now c.in_ok-keys.keys c.in_ok-keys.ensures.ok c.look-plan.result c.look-plan.ensures in
     let same = ap (met_by (division (g.I.Source.view c.args.over.index.now).index) r.query) plan in
     let all = due_is (division (g.I.Source.view c.args.over.index.now).index) r (note_plan r.query c.args.answers.now)
-    (titles_asked r c.from_residual-in_err-reply.result) in
-    let told = err_due r c.from_residual-in_err-reply.result c.from_residual-in_err-reply.ensures.0 in
-    let read = ap (titles_read r) c.in_err-reply.was in
+    (filed_titles (g.I.Source.view c.args.over.index.now).index.docs r c.from_residual-in_err-reply.result) in
+    let told = err_due (g.I.Source.view c.args.over.index.now).index.docs r c.from_residual-in_err-reply.result c.from_residual-in_err-reply.ensures.0 in
+    let read = ap (titles_read (g.I.Source.view c.args.over.index.now).index.docs r) c.in_err-reply.was in
     let less = facets_hit_less (g.I.Source.view c.args.over.index.now) c.requires.opened.source c.in_ok-found.found.hits r.facets in
     within_both c.find_by.ensures.reads c.show-shown.ensures.reads (omega (arith, all, same, told, read, less))
 
@@ -142,8 +142,8 @@ returns-clause-reads g c =
     let r = asked c.args.over.request.now in
     let plan = is_note_plan i r.query c.requires.limits.query c.args.answers.now c.in_ok-keys.keys c.in_ok-keys.ensures.ok c.look-plan.result c.look-plan.ensures in
     let same = ap (met_by (division (g.I.Source.view c.args.over.index.now).index) r.query) plan in
-    let all = due_is (division (g.I.Source.view c.args.over.index.now).index) r (note_plan r.query c.args.answers.now) (length c.in_ok-reply.reply.hits) in
-    let read = ap (titles_read r) c.in_ok-reply.was in
+    let all = due_is (division (g.I.Source.view c.args.over.index.now).index) r (note_plan r.query c.args.answers.now) (length (filter (λ h. nat_lt h.doc (g.I.Source.view c.args.over.index.now).index.docs) c.in_ok-reply.reply.hits)) in
+    let read = ap (titles_read (g.I.Source.view c.args.over.index.now).index.docs r) c.in_ok-reply.was in
     let less = facets_hit_less (g.I.Source.view c.args.over.index.now) c.requires.opened.source c.in_ok-found.found.hits r.facets in
     within_both c.find_by.ensures.reads c.show-shown.ensures.reads (omega (arith, all, same, read, less))
 
@@ -166,8 +166,8 @@ returns-in_err-reply-clause-sharp g c b is stands good =
     let plan = is_note_plan (seen v) r.query c.requires.limits.query c.args.answers.now c.in_ok-keys.keys c.in_ok-keys.ensures.ok c.look-plan.result
     c.look-plan.ensures in
     let same = ap (sharp_by (division v.index) k r.query) plan in
-    let told = err_due r c.from_residual-in_err-reply.result c.from_residual-in_err-reply.ensures.0 in
-    let read = ap (titles_read r) c.in_err-reply.was in
+    let told = err_due (g.I.Source.view c.args.over.index.now).index.docs r c.from_residual-in_err-reply.result c.from_residual-in_err-reply.ensures.0 in
+    let read = ap (titles_read (g.I.Source.view c.args.over.index.now).index.docs r) c.in_err-reply.was in
     let found = c.in_ok-found.ensures.told b is stands good.held good.kept in
     let facets = ap (λ (h : Base). hit_of_facets (division v.index) h r.facets) found.table.found.base in
     within_both (c.find_by.ensures.sharp b is stands good.kept) c.show-shown.ensures.reads (omega (arith, same, told, read, facets))
@@ -180,7 +180,7 @@ returns-clause-sharp g c b is stands good =
     let plan = is_note_plan (seen v) r.query c.requires.limits.query c.args.answers.now c.in_ok-keys.keys c.in_ok-keys.ensures.ok c.look-plan.result
     c.look-plan.ensures in
     let same = ap (sharp_by (division v.index) k r.query) plan in
-    let read = ap (titles_read r) c.in_ok-reply.was in
+    let read = ap (titles_read (g.I.Source.view c.args.over.index.now).index.docs r) c.in_ok-reply.was in
     let found = c.in_ok-found.ensures.told b is stands good.held good.kept in
     let facets = ap (λ (h : Base). hit_of_facets (division v.index) h r.facets) found.table.found.base in
     within_both (c.find_by.ensures.sharp b is stands good.kept) c.show-shown.ensures.reads (omega (arith, same, read, facets))

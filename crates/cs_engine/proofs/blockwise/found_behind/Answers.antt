@@ -14,7 +14,7 @@ use Rattle.cs_engine.specs.IndexReading.{IsWithin, run_of}
 use Rattle.cs_engine.specs.Packing.{doc_of_key, post_of_key, word_of_key}
 use Rattle.cs_engine.specs.Skipping.{hit_blocks, may_hit}
 use Rattle.cs_engine.specs.Steps.{IsBaseOf}
-use Rattle.cs_engine.proofs.PackingLemmas.{as_they_come, held_known, keys_among, keys_between}
+use Rattle.cs_engine.proofs.PackingLemmas.{as_they_come, held_chosen, held_known, keys_among, keys_between}
 use Rattle.cs_engine.proofs.OverSources.{blocks_counted, chosen_countable, chosen_table, run_countable}
 use Rattle.cs_engine.proofs.PartSteps.{base_in}
 use Rattle.cs_engine.proofs.BehindLemmas.{best_found, best_more, rows_are, scored_are}
@@ -232,7 +232,7 @@ returns-clause-told g c b is stands =
     let t = is_chosen lo hi listed in
     let run = counted_rows (v.blocks b) first last lo hi listed in
     let rows = run ++ filter t held in
-    let whole : rows ≡ run ++ filter t v.held = ap (λ ps. run ++ filter t ps) c.held-held.ensures in
+    let whole : rows ≡ run ++ filter t v.held = ap (λ ps. run ++ ps) (held_chosen v lo hi listed held c.held-held.ensures) in
     let few = subst AreCountable (sym whole) (chosen_countable b v stands source first last lo hi listed met) in
     let counted = subst (λ k. HasCounted (counted_rows (v.blocks b) first k lo hi listed) c.loop-k.counts) done (inv.told b is stands) in
     let scored = subst (λ k. HasBestScores (run_of (v.blocks b) first k t) c.loop-k.best.items) done (inv.scored b is stands) in

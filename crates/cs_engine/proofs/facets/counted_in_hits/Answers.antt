@@ -6,7 +6,7 @@ use Rattle.cs_tables.specs.WordCounts.{AreCountable, HasCounted, is_chosen}
 use Rattle.cs_engine.specs.Counting.{counted_rows}
 use Rattle.cs_engine.specs.Packing.{post_of_key, word_of_key}
 use Rattle.cs_engine.proofs.OverSources.{chosen_countable, chosen_table, run_countable}
-use Rattle.cs_engine.proofs.PackingLemmas.{as_they_come, held_known, keys_between}
+use Rattle.cs_engine.proofs.PackingLemmas.{as_they_come, held_chosen, held_known, keys_between}
 use Rattle.cs_engine.proofs.facets.counted_in_hits.Goals as goal
 
 pub count_keys-requires : goal.count_keys-requires
@@ -48,7 +48,7 @@ returns-clause-told g c b is stands =
     let run = counted_rows (v.blocks b) from.first from.last lo hi listed in
     let all = subst (λ k. HasCounted (counted_rows (v.blocks b) from.first k lo hi listed) c.count_keys.new.counts) end counted in
     let rows = run ++ filter t held in
-    let whole : rows ≡ run ++ filter t v.held = ap (λ ps. run ++ filter t ps) c.held.ensures in
+    let whole : rows ≡ run ++ filter t v.held = ap (λ ps. run ++ ps) (held_chosen v lo hi listed held c.held.ensures) in
     let few = subst AreCountable (sym whole) (chosen_countable b v stands source from.first from.last lo hi listed met) in
     record {
       seen = rows;

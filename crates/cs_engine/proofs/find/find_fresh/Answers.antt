@@ -38,17 +38,20 @@ returns-then-is_empty-clause-told g c b is stands held =
 pub find_range-requires-clause-asks : goal.find_range-requires-clause-asks
 find_range-requires-clause-asks g c =
     subst (λ (ps : List Part). AsksAlone (g.I.Source.view c.args.over.index.now) ps c.in-Some.words.0 c.in-Some.words.1) c.as_slice-parts.ensures
-    c.in-Some.ensures
+    c.in-Some.ensures.alone
+
+pub find_range-requires-clause-wide : goal.find_range-requires-clause-wide
+find_range-requires-clause-wide g c = c.in-Some.ensures.wide
 
 pub returns-in-Some-clause-reads : goal.returns-in-Some-clause-reads
 returns-in-Some-clause-reads g c =
     within_more c.in_ok-found-2.ensures.reads (alone_met (g.I.Source.view c.args.over.index.now) c.args.over.query.now c.as_slice-parts.ensures
-    c.in-Some.ensures)
+    c.in-Some.ensures.alone)
 
 pub returns-in_err-found-2-clause-reads : goal.returns-in_err-found-2-clause-reads
 returns-in_err-found-2-clause-reads g c =
     within_more c.in_err-found-2.ensures.reads (alone_met (g.I.Source.view c.args.over.index.now) c.args.over.query.now c.as_slice-parts.ensures
-    c.in-Some.ensures)
+    c.in-Some.ensures.alone)
 
 -- ---- the parts before the last, and that one
 pub returns-in_err-hits-clause-reads : goal.returns-in_err-hits-clause-reads

@@ -1,9 +1,13 @@
-use Rattle.std.proofs.Common.{◌*◌, ◌-◌, length, arith}
+use Rattle.std.proofs.Common.{◌*◌, ◌-◌, length, refl, arith}
+use Rattle.std.specs.Prelude.{filter}
 use Rattle.cs_base.specs.declared.content.limits.TheConstants.{MAX_PARTS}
 use Rattle.cs_base.specs.declared.content.query.Query.{out-Query}
 use Rattle.cs_base.specs.declared.content.scores.TheConstants.{MAX_ROW_SCORE}
-use Rattle.cs_engine.proofs.LooseLemmas.{found_counts, table_counted, table_there}
+use Rattle.cs_engine.proofs.LooseLemmas.{found_counts, large_entry, table_counted, table_there}
+use Rattle.cs_engine.specs.Counting.{in_listed}
+use Rattle.cs_engine.specs.Stocked.{is_between}
 use Rattle.cs_engine.proofs.PartSteps.{base_weaker}
+use Rattle.cs_engine.proofs.WideLemmas.{wide_fits, wide_range}
 use Rattle.cs_engine.proofs.find_parts.find_behind.Goals as goal
 
 pub found_behind-requires-clause-base : goal.found_behind-requires-clause-base
@@ -14,13 +18,32 @@ found_behind-requires-clause-base g c =
     (omega (arith, few)) c.requires.asks.base
 
 pub returns-clause-told : goal.returns-clause-told
-returns-clause-told g c b is stands by =
-    table_counted (found_counts (g.I.Source.view c.args.over.index.now) c.args.over.query.now c.args.hits.now c.args.words.0 c.args.words.1
-    c.requires.asks b stands
-    c.requires.over.opened.source by _ _ (c.in_ok-found.ensures.told b is stands)) c.in_ok-table.ensures.total c.in_ok-table.ensures.first
+returns-clause-told g c b is stands by many p =
+    let v = g.I.Source.view c.args.over.index.now in
+    let q = c.args.over.query.now in
+    let hits = c.args.hits.now in
+    let lo = c.args.words.0 in
+    let hi = c.args.words.1 in
+    let listed = c.args.listed.now in
+    let source = c.requires.over.opened.source in
+    let posts = (v.stock b).posts in
+    let found = c.in_ok-found.ensures.told b is stands in
+    record {
+      table = table_counted (found_counts v q hits lo hi c.requires.asks b stands source by _ _ found) c.in_ok-table.ensures.total c.in_ok-table.ensures.first;
+      own = tt;
+      large = λ none other. large_entry v q hits lo hi c.requires.asks listed c.requires.listed b stands source by
+          (filter (in_listed listed) (filter (is_between lo hi) posts)) refl many;
+      range = wide_range posts listed c.in_ok-found.found c.counted_in_all.result c.counted_in_all.ensures many found;
+    }
 
-pub returns-clause-table : goal.returns-clause-table
-returns-clause-table g c =
+pub returns-clause-fits : goal.returns-clause-fits
+returns-clause-fits g c =
     let high = c.in_ok-found.ensures.words in
     let within = c.requires.asks.within in
-    table_there _ (omega (arith, high, within)) c.in_ok-table.ensures.known
+    let few = omega (arith, high, within) in
+    record {
+      base = c.in_ok-found.ensures.base;
+      table = table_there _ few c.in_ok-table.ensures.known;
+      own = tt;
+      range = wide_fits _ c.counted_in_all.result c.counted_in_all.ensures few;
+    }

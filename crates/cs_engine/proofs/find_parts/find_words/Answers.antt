@@ -11,10 +11,10 @@ use Rattle.cs_engine.specs.Packing.{IsPacked, key_of}
 use Rattle.cs_engine.specs.IndexReading.{run_of}
 use Rattle.cs_engine.specs.Sources.{seen}
 use Rattle.cs_engine.proofs.CountingLemmas.{listed_in}
-use Rattle.cs_engine.proofs.LooseLemmas.{chosen_entry, entry_fits, is_large}
+use Rattle.cs_engine.proofs.LooseLemmas.{chosen_entry, entry_fits}
 use Rattle.cs_engine.proofs.SkippingLemmas.{few_hit, sieve_of, two_runs}
 use Rattle.cs_engine.proofs.WalkLemmas.{within_both}
-use Rattle.cs_engine.proofs.PackingLemmas.{all_in_room, chosen_are, held_known, held_packed, ordered_by, ordered_passed, ordered_told, ordered_within, run_longer}
+use Rattle.cs_engine.proofs.PackingLemmas.{all_in_room, chosen_are, held_chosen, held_known, held_packed, ordered_by, ordered_passed, ordered_told, ordered_within, run_longer}
 use Rattle.cs_engine.proofs.PackingLemmas.{with_held}
 use Rattle.cs_engine.proofs.find_parts.find_words.Goals as goal
 
@@ -55,41 +55,36 @@ returns-then-are_more-clause-told g c b is stands by p =
     let had = c.in_ok-gathered.ensures.gathered in
     let h = had.keys in
     let t = is_chosen lo hi listed in
-    let has = listed_in c.args.hits c.in_ok-listed.listed.items listed c.in_ok-listed.ensures c.deref-marks.ensures.value in
     let more = run_longer t (v.blocks b) from.first from.next from.last had.upto in
     let over = ltb-true _ _ (sym c.are_more.ensures ∙ c.if-are_more.true) in
-    record {
-      table = c.in_ok-hits.ensures.told b (c.gather_keys.ensures.store.bytes ∙ is) stands by;
-      own = tt;
-      range = tt;
-      large = λ none other.
-          is_large v c.args.over.query.now c.args.hits lo hi c.requires.asks listed has b stands
-          c.requires.over.opened.source by (run_of (v.blocks b) from.first from.last t ++ filter t v.held)
-          (chosen_are b v stands c.requires.over.opened.source from.first from.last lo hi listed had.met)
-          (omega (
-            arith,
-            over,
-            c.len.ensures,
-            c.many_chosen.ensures,
-            ap (λ (ps : List Post). length (filter t ps)) c.held-held.ensures,
-            c.saturating_sub-room.ensures,
-            c.listed_count.ensures,
-            ap length h.are,
-            length-map h.rows (key_of v.index.weights),
-            ap length (h.run b is stands),
-            length-append (run_of (v.blocks b) from.first from.last t) (filter t v.held),
-            more,
-          ));
-    }
+    let rows = run_of (v.blocks b) from.first from.last t ++ filter t v.held in
+    let long = (chosen_are b v stands c.requires.over.opened.source from.first from.last lo hi listed had.met).long in
+    c.in_ok-found.ensures.told b (c.gather_keys.ensures.store.bytes ∙ is) stands by
+    (omega (
+      arith,
+      over,
+      c.len.ensures,
+      c.many_chosen.ensures,
+      ap length (held_chosen v lo hi listed c.held-held.result.now c.held-held.ensures),
+      c.saturating_sub-room.ensures,
+      c.listed_count.ensures,
+      ap length h.are,
+      length-map h.rows (key_of v.index.weights),
+      ap length (h.run b is stands),
+      length-append (run_of (v.blocks b) from.first from.last t) (filter t v.held),
+      more,
+      long,
+    ))
+    p
 
-pub returns-in_err-hits-clause-reads : goal.returns-in_err-hits-clause-reads
-returns-in_err-hits-clause-reads g c =
+pub returns-in_err-found-clause-reads : goal.returns-in_err-found-clause-reads
+returns-in_err-found-clause-reads g c =
     let v = (g.I.Source.view c.args.over.index.now) in
     let had = c.in_ok-gathered.ensures.gathered in
     let from = c.in_ok-gathered.gathered in
     let many = few_hit v c.args.hits c.args.words.0 c.args.words.1 from.first from.last had.met in
     let runs = two_runs c.args.hits v.index.heads from.first from.next from.last had.onward had.upto had.met.within in
-    within_both c.in_ok-gathered.ensures.read c.in_err-hits.ensures.reads (omega (arith, many, runs))
+    within_both c.in_ok-gathered.ensures.read c.in_err-found.ensures.reads (omega (arith, many, runs))
 
 pub returns-then-are_more-clause-reads : goal.returns-then-are_more-clause-reads
 returns-then-are_more-clause-reads g c =
@@ -98,7 +93,7 @@ returns-then-are_more-clause-reads g c =
     let from = c.in_ok-gathered.gathered in
     let many = few_hit v c.args.hits c.args.words.0 c.args.words.1 from.first from.last had.met in
     let runs = two_runs c.args.hits v.index.heads from.first from.next from.last had.onward had.upto had.met.within in
-    within_both c.in_ok-gathered.ensures.read c.in_ok-hits.ensures.reads (omega (arith, many, runs))
+    within_both c.in_ok-gathered.ensures.read c.in_ok-found.ensures.reads (omega (arith, many, runs))
 
 -- ---- rows in order
 pub found_with-requires : goal.found_with-requires

@@ -6,9 +6,11 @@ use Rattle.cs_engine.proofs.find_range.counted_words.Goals as goal
 
 -- ---- what was held
 pub returns-in-Some-Counted-clause-told : goal.returns-in-Some-Counted-clause-told
-returns-in-Some-Counted-clause-told g c b is stands over = subst (IsHoldingOver ((g.I.Source.view c.args.index.now).stock b) c.args.words.0
-    c.args.words.1) c.in-Some-Counted.field-0-is
-    (was_held c.in-Some-Counted.ensures.some.0 (IsHeldOver ((g.I.Source.view c.args.index.now).stock b)) over)
+returns-in-Some-Counted-clause-told g c b is stands over =
+    let s = (g.I.Source.view c.args.index.now).stock b in
+    let wide = subst (IsHoldingOver s c.args.words.0 c.args.words.1) c.in-Some-Counted.field-0-is
+    (was_held c.in-Some-Counted.ensures.some.0 (IsHeldOver s) over) in
+    wide.found
 
 pub returns-in-Some-Counted-clause-base : goal.returns-in-Some-Counted-clause-base
 returns-in-Some-Counted-clause-base g c = (subst (FitsHolding (seen (g.I.Source.view c.args.index.now))) c.in-Some-Counted.field-0-is

@@ -5,7 +5,7 @@ use Rattle.cs_engine.specs.Loose.{HasBestScores}
 use Rattle.cs_engine.specs.IndexReading.{run_of}
 use Rattle.cs_engine.specs.Skipping.{hit_blocks, hit_met, may_hit}
 use Rattle.cs_engine.proofs.BehindLemmas.{best_found, best_more}
-use Rattle.cs_engine.proofs.PackingLemmas.{held_known}
+use Rattle.cs_engine.proofs.PackingLemmas.{held_chosen, held_known}
 use Rattle.cs_engine.proofs.SkippingLemmas.{hits_end, hits_go_on, hits_skip, hits_stop, next_block, nothing_more, read_where, skipped, some_hit}
 use Rattle.cs_engine.proofs.WalkLemmas.{block_fails, fails_behind, hands_on}
 use Rattle.cs_engine.proofs.scored.best_in_blocks.Given as given
@@ -108,7 +108,7 @@ returns-clause-told g c b is stands =
     let v = g.I.Source.view c.args.index.now in
     let run = run_of (v.blocks b) first last (is_chosen lo hi listed) in
     best_found b v stands c.requires.sieve.opened.source lo hi listed first last c.raise_held.new.best.items met
-    (subst (λ h. HasBestScores (run ++ filter (is_chosen lo hi listed) h) c.raise_held.new.best.items) c.held.ensures
+    (subst (λ h. HasBestScores (run ++ h) c.raise_held.new.best.items) (held_chosen v lo hi listed c.held.result.now c.held.ensures)
     (c.raise_held.ensures.best run
     (subst (λ k. HasBestScores (run_of (v.blocks b) first k (is_chosen lo hi listed)) c.loop-k.best.items) done (c.loop-k.invariant.scored b is stands))))
 

@@ -1,11 +1,17 @@
-use Rattle.std.proofs.Common.{◌<◌, ap, map, length, refl, sym, subst, ◌∙◌, arith}
+use Rattle.std.proofs.Common.{◌<◌, ap, drop, map, length, refl, sym, subst, ◌∙◌, arith, length-take}
 use Rattle.std.specs.Prelude.{All}
+use Rattle.std.proofs.lemmas.List.{length-map}
+use Rattle.cs_base.specs.content.Members.{members_in}
+use Rattle.cs_base.specs.content.Orders.{by_rank}
 use Rattle.cs_base.specs.declared.content.doc.Scored.{Scored}
+use Rattle.cs_model.specs.Replies.{HitShown}
 use Rattle.cs_model.specs.Requests.{hit_shown}
 use Rattle.cs_query.specs.RequestView.{asked}
 use Rattle.cs_tables.specs.declared.tables.Completion.{Completion}
-use Rattle.cs_engine.specs.Stocked.{corpus_in, shown_at}
+use Rattle.cs_engine.specs.Stocked.{base_hits, corpus_in, present_docs, shown_at}
 use Rattle.cs_engine.proofs.AnsweringLemmas.{hits_few, reply_told, shown_in, words_as_shown}
+use Rattle.cs_engine.proofs.TitlesRead.{filed_shown}
+use Rattle.cs_engine.proofs.WalkLemmas.{within_both}
 use Rattle.cs_engine.proofs.show.show.Goals as goal
 
 pub shown_words-requires-clause-texts : goal.shown_words-requires-clause-texts
@@ -41,3 +47,16 @@ returns-clause-told g c b is stands over found =
     reply_told b v stands c.requires.opened.source r c.args.hits.now posts found.found found.within c.in_ok-shown.shown c.in_ok-facets.facets
     c.in_ok-shown_first.shown_first c.args.table.now.total c.in_ok-first.total _
     shown (c.in_ok-facets.ensures.told b is stands over) hits found.total c.in_ok-first.ensures.total refl
+
+pub returns-clause-few : goal.returns-clause-few
+returns-clause-few g c =
+    let shown = sym (length-map c.in_ok-shown_first.shown_first (λ (s : HitShown). s.doc)) ∙ ap length c.in_ok-shown_first.ensures.docs
+    ∙ length-map _ (λ (h : Scored). h.doc) ∙ ap length (c.as_slice-2.ensures ∙ c.in_ok-first.ensures.first) in
+    let few = length-take c.args.over.request.now.hits (drop c.args.over.request.now.offset (members_in by_rank (base_hits (present_docs (g.I.Source.view c.args.over.index.now).present) c.args.hits.now))) in
+    omega (arith, shown, few)
+
+pub returns-clause-reads : goal.returns-clause-reads
+returns-clause-reads g c =
+    let n = (g.I.Source.view c.args.over.index.now).index.docs in
+    let same = filed_shown n c.in_ok-shown_first.shown_first _ c.in_ok-shown_first.ensures.docs in
+    within_both c.shown_facets.ensures.reads c.shown_hits.ensures.reads (omega (arith, same))

@@ -4,13 +4,15 @@ use Rattle.cs_engine.specs.Keeping.{AreGood, AreGoodFor, EngineView, IsAfter, Ke
 use Rattle.cs_engine.specs.declared.engine.Engine.{Engine}
 use Rattle.cs_base.specs.outside.Causes.{ReadsWithin}
 use Rattle.cs_model_index.specs.Sections.{file_corpus}
+use Rattle.cs_model_kept.specs.Due.{due}
 use Rattle.cs_model_kept.specs.Sharp.{sharp}
 use Rattle.cs_query.specs.RequestView.{asked}
-use Rattle.cs_engine.specs.Asking.{division, titles_asked}
+use Rattle.cs_engine.specs.Asking.{division, filed_titles, titles_asked}
 use Rattle.cs_engine.specs.IndexReading.{stock_of}
 use Rattle.cs_engine.proofs.OpenedLemmas.{answers_opened}
 use Rattle.cs_engine.proofs.SharpReads.{reads_sharp}
 use Rattle.cs_engine.proofs.StockLemmas.{stock_corpus}
+use Rattle.cs_engine.proofs.TitlesRead.{fewer_due, fewer_sharp, filed_less}
 use Rattle.cs_engine.proofs.engine.Engine.ask.Goals as goal
 
 pub invariant_of-self : goal.invariant_of-self
@@ -58,10 +60,20 @@ returns-clause-sharp g c b told_is stands good =
     let is = c.index_is_source.ensures.index in
     let q = c.args.request.now.query in
     let r = asked c.args.request.now in
-    let titles = titles_asked r c.ask_over.result in
+    let titles = filed_titles i.docs r c.ask_over.result in
     let at = subst (StandsFor b) (sym (ap (λ (e : Engine). e.index) c.self.view_is)) stands in
     let own = subst (AreGood b) (sym c.self.view_is) good in
     let good_for = subst (λ k. AreGoodFor k (stock_of b) (engine_with i c.self.inside.answers c.self.inside.held)) (sym (stock_corpus b i at is)) own in
-    subst (λ (e : EngineView). ReadsWithin (sharp (division e.index) (file_corpus b) r (note_plan q e.answers) titles) (g.S.Store.reads c.args.store.now)
-    (g.S.Store.reads c.ask_over.new.store)) c.self.view_is
-    (reads_sharp b i at is r (note_plan q c.self.inside.answers) titles (c.ask_over.ensures.sharp b told_is at good_for))
+    subst (λ (e : EngineView). ReadsWithin (sharp (division e.index) (file_corpus b) r (note_plan q e.answers) (titles_asked r c.ask_over.result))
+    (g.S.Store.reads c.args.store.now) (g.S.Store.reads c.ask_over.new.store)) c.self.view_is
+    (fewer_sharp (division i) r (note_plan q c.self.inside.answers) (filed_less i.docs r c.ask_over.result) (file_corpus b)
+    (reads_sharp b i at is r (note_plan q c.self.inside.answers) titles (c.ask_over.ensures.sharp b told_is at good_for)))
+
+pub returns-clause-reads : goal.returns-clause-reads
+returns-clause-reads g c =
+    let i = c.self.inside.index in
+    let q = c.args.request.now.query in
+    let r = asked c.args.request.now in
+    subst (λ (e : EngineView). ReadsWithin (due (division e.index) r (note_plan q e.answers) (titles_asked r c.ask_over.result))
+    (g.S.Store.reads c.args.store.now) (g.S.Store.reads c.ask_over.new.store)) c.self.view_is
+    (fewer_due (division i) r (note_plan q c.self.inside.answers) (filed_less i.docs r c.ask_over.result) c.ask_over.ensures.reads)

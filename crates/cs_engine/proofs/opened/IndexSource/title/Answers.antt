@@ -1,5 +1,7 @@
-use Rattle.std.proofs.Common.{subst, ◌∙◌}
+use Rattle.std.proofs.Common.{Bool, if◌then◌else◌, subst, sym, ◌∙◌}
+use Rattle.std.proofs.lemmas.Bool.{lt-ltb}
 use Rattle.std.proofs.lemmas.Result.{IfOk-weaker}
+use Rattle.cs_base.specs.outside.Causes.{ReadsWithin}
 use Rattle.cs_file.specs.Indexes.{IsIndex}
 use Rattle.cs_engine.proofs.OpenedLemmas.{opened_title}
 use Rattle.cs_engine.proofs.WalkLemmas.{title_read}
@@ -13,3 +15,8 @@ returns-clause-stood g c b is stands =
 
 pub returns-clause-store : goal.returns-clause-store
 returns-clause-store g c = title_read c.title.result c.requires.in_range c.title.ensures.store
+
+pub returns-clause-reads : goal.returns-clause-reads
+returns-clause-reads g c =
+    let below = lt-ltb c.args.doc c.args.self.now.docs c.requires.in_range in
+    subst (λ (b : Bool). ReadsWithin (if b then 1 else 0) (g.S.Store.reads c.args.store.now) (g.S.Store.reads c.title.new.store)) (sym below) c.title.ensures.reads
