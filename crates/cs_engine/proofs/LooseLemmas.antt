@@ -1,7 +1,7 @@
 -- The reply to a query whose last part asks for some words, from the rows of that part in any order.
 --
 --   chosen_entry, entry_fits     the entry of the rows in order
---   large_entry, is_large        where it is larger than may be kept
+--   large_entry    where it is larger than may be kept
 --   found_counts   what is counted of rows by blocks gives the table of the query
 --   table_counted, table_there     that table
 use Rattle.std.proofs.Common.{◌≡◌, ℕ, ◌+◌, ◌-◌, ◌<◌, ◌≤◌, Bool, true, List, length, take, refl, sym, ap, subst, ◌∙◌, arith, if◌then◌else◌}
@@ -30,7 +30,6 @@ use Rattle.cs_engine.specs.Steps.{EntryFits, last_is_positive}
 use Rattle.cs_engine.specs.Stocked.{corpus_in, is_between, base_posts}
 use Rattle.cs_engine.proofs.OverSources.{source_within}
 use Rattle.cs_engine.proofs.KeepingLemmas.{fresh_is}
-use Rattle.cs_engine.proofs.PackingLemmas.{AreAlike}
 use Rattle.cs_engine.proofs.PartSteps.{in_base_within}
 use Rattle.cs_engine.proofs.PlainParts.{listed_entry, listed_fits}
 use Rattle.cs_engine.proofs.PlansLemmas.{found_by_entry}
@@ -50,9 +49,6 @@ module _ (v : SourceView) (q : Query) (hits : Base) (lo hi : ℕ) (asks : AreLas
       (subst (λ p. EntryFits (seen v) p (n - 1 + 1) (entry_with hits rows)) (sym asks.positive) fits)
 
   module _ (b : List ℕ) (stands : StandsFor b v.index) (is : IsSource v) (by : IsEntryByWords b v q hits lo hi) where
-    abbrev chosen : List Post
-    chosen = filter (in_listed listed) (filter (is_between lo hi) (v.stock b).posts)
-
     pub chosen_entry : (posts : List Post) → posts ≡ filter (in_listed listed) (filter (is_between lo hi) (v.stock b).posts)
         → IsEntryOver (corpus_in (v.stock b)) (seen v) q (entry_with hits posts)
     chosen_entry posts are = subst (IsEntryOver (corpus_in (v.stock b)) (seen v) q) (sym (listed_entry v hits listed has b stands is lo hi posts are)) by
@@ -62,10 +58,6 @@ module _ (v : SourceView) (q : Query) (hits : Base) (lo hi : ℕ) (asks : AreLas
     large_entry posts are lt =
         sym (fresh_is (corpus_in (v.stock b)) (seen v) q (entry_with hits posts) (chosen_entry posts are))
         ∙ ap (λ x. if x then kept.TooLarge else kept.Kept) (large_true MAX_ENTRY_SIZE (length posts + listed_count hits) lt)
-
-    module _ (rows : List Post) (a : AreAlike (v.stock b) lo hi listed rows) where
-      pub is_large : MAX_ENTRY_SIZE < length rows + listed_count hits → kept_fresh (entry_of (corpus_in (v.stock b)) q) ≡ kept.TooLarge
-      is_large lt = large_entry chosen refl (subst (λ n. MAX_ENTRY_SIZE < n + listed_count hits) a.long lt)
 
 -- what is found by blocks
 pub found_counts : (v : SourceView) (q : Query) (hits : Base) (lo hi : ℕ) → AreLastWords (seen v) q hits lo hi → (b : List ℕ) → StandsFor b v.index

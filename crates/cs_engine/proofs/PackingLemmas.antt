@@ -34,6 +34,7 @@ use Rattle.cs_base.specs.content.Orders.{AreSorted, by_place}
 use Rattle.cs_base.specs.declared.content.doc.Post.{Post}
 use Rattle.cs_base.specs.declared.content.scores.Weights.{Weights}
 use Rattle.cs_base.proofs.MembersLemmas.{again}
+use Rattle.cs_base.proofs.ListsLemmas.{all_of, filter_alike, filter_twice}
 use Rattle.cs_base.proofs.OrdersLemmas.{Less-from_lt}
 use Rattle.cs_file.specs.CallAnswers.{IsRanged}
 use Rattle.cs_file.specs.Indexes.{AreMet, IndexView, StandsFor}
@@ -365,7 +366,7 @@ held_ranged : (v : SourceView) → IsSource v → All (IsRanged (seen v)) v.held
 held_ranged v is = All-weaker (IsIn v) (IsRanged (seen v)) (λ p h. h.ranged) v.held is.held
 
 -- and so have those in memory of some words
-module _ (v : SourceView) (is : IsSource v) {lo hi : ℕ} (held : List Post) (same : held ≡ filter (is_between lo hi) v.held) where
+module _ (v : SourceView) (is : IsSource v) (lo hi : ℕ) (held : List Post) (same : held ≡ filter (is_between lo hi) v.held) where
   some_held : (P : Post → Type 0) → All P v.held → All P held
   some_held P all = subst (All P) (sym same) (All-filter (is_between lo hi) P v.held all)
 
@@ -381,7 +382,7 @@ module _ (v : SourceView) (is : IsSource v) {lo hi : ℕ} (held : List Post) (sa
       All-weaker (IsWithin v.docs (length v.words)) (λ p. p.doc < docs) (λ p h. let doc = h.doc in omega (arith, doc, docs_are)) held held_within
 
 and_again : (a b : Bool) → (a && (a && b)) ≡ (a && b)
-and_again a b = elim a [
+and_again a b = elim a as (λ x. (x && (x && b)) ≡ (x && b)) [
   | true ↦ refl
   | false ↦ refl
 ]
@@ -480,9 +481,9 @@ with_held v is told lo hi listed g held keys has held_is added =
     record {
       rows = h.rows ++ more;
       are = added ∙ ap (λ xs. xs ++ map (key_of w) more) h.are ∙ sym (map-append (key_of w) h.rows more);
-      packed = All-append (IsPacked w) h.rows more h.packed (All-filter t (IsPacked w) held (held_packed v is held held_is));
+      packed = All-append (IsPacked w) h.rows more h.packed (All-filter t (IsPacked w) held (held_packed v is lo hi held held_is));
       within = All-append (IsWithin v.docs (length v.words)) h.rows more h.within
-          (All-filter t (IsWithin v.docs (length v.words)) held (held_within v is held held_is));
+          (All-filter t (IsWithin v.docs (length v.words)) held (held_within v is lo hi held held_is));
       passed = All-append (λ p. t p ≡ true) h.rows more h.passed (filter_passes t held);
     }
 
@@ -497,9 +498,9 @@ gathered v is told first last lo hi listed held old keys met h held_is added =
     record {
       rows = h.rows ++ more;
       are = added ∙ ap (λ xs. xs ++ map (key_of w) more) h.are ∙ sym (map-append (key_of w) h.rows more);
-      packed = All-append (IsPacked w) h.rows more h.packed (All-filter t (IsPacked w) held (held_packed v is held held_is));
+      packed = All-append (IsPacked w) h.rows more h.packed (All-filter t (IsPacked w) held (held_packed v is lo hi held held_is));
       within = All-append (IsWithin v.docs (length v.words)) h.rows more h.within
-          (All-filter t (IsWithin v.docs (length v.words)) held (held_within v is held held_is));
+          (All-filter t (IsWithin v.docs (length v.words)) held (held_within v is lo hi held held_is));
       passed = All-append (λ p. t p ≡ true) h.rows more h.passed (filter_passes t held);
       stood = λ b tells stands.
           subst (AreAlike (v.stock b) lo hi listed) (ap₂ (λ x y. x ++ y) (sym (h.run b tells stands)) (sym (held_chosen v lo hi listed held held_is)))

@@ -1,6 +1,6 @@
 -- Ranges of words that are held.
 --
---   none_more, none_left      which of them passes a test
+--   none_more, none_left, any_placed      which of them passes a test
 --   bytes_more, range_bytes_both      the bytes of the first ones, and of some and others
 --   range_taken          one that is found is taken out
 --   less_held, was_held, others_go    what is left where one is taken out
@@ -11,9 +11,9 @@
 --   held_if              what holds of all where all may have gone
 use Rattle.std.proofs.Common.{◌≡◌, ℕ, zero, suc, ◌+◌, ◌<◌, ◌≤◌, ◌==◌, ◌&&◌, ◌||◌, inl, inr, Bool, true, false, if◌then◌else◌, List, [], ◌∷◌, ◌++◌, length, take, drop, get_or}
 use Rattle.std.proofs.Common.{Option, Some, None, refl, sym, ap, ap₂, subst, ◌∙◌, arith}
-use Rattle.std.specs.Prelude.{All, IfSome}
+use Rattle.std.specs.Prelude.{All, IfSome, is_some}
 use Rattle.std.specs.List.{Contains, list_any, remove}
-use Rattle.std.proofs.lemmas.Bool.{and_parts, eqb-true}
+use Rattle.std.proofs.lemmas.Bool.{and_parts, eqb-true, or_right}
 use Rattle.std.proofs.lemmas.List.{drop_all, take-append-drop, take_all}
 use Rattle.std.proofs.lemmas.List.Elements.{All-append, All-cons, All-contains, All-contains_itself, All-nil, All-tail, All-take, All-weaker, Contains-append_left, Contains-append_right}
 use Rattle.cs_meet.proofs.Passes.{next_is}
@@ -29,6 +29,16 @@ none_more t xs i x l is fails so_far = so_far ∙ ap (list_any t) (next_is xs i 
 
 pub none_left : {X : Type 0} (t : X → Bool) (xs : List X) (n : ℕ) → length xs ≤ n → list_any t xs ≡ list_any t (drop n xs) → list_any t xs ≡ false
 none_left t xs n le so_far = so_far ∙ ap (list_any t) (drop_all n xs le)
+
+any_at : {X : Type 0} (t : X → Bool) (xs : List X) (k : ℕ) → PassesAt t xs k → list_any t xs ≡ true
+any_at t [] k at = absurd (let l = at.0 in omega (arith, l))
+any_at t (x ∷ xs) zero at = ap (λ b. b || list_any t xs) (at.1 x)
+any_at t (x ∷ xs) (suc k) at = or_right (t x) (list_any t xs) (any_at t xs k ((let l = at.0 in omega (arith, l)), at.1))
+
+pub any_placed : {X : Type 0} (t : X → Bool) (xs : List X) (o : Option ℕ) → (o ≡ None → list_any t xs ≡ false) → IfSome o (PassesAt t xs)
+    → is_some o ≡ list_any t xs
+any_placed t xs None none some = sym (none refl)
+any_placed t xs (Some k) none some = sym (any_at t xs k some)
 
 -- ---- bytes
 pub bytes_more : (xs : List HeldRange) (i : ℕ) (x : HeldRange) → i < length xs → x ≡ get_or xs i x

@@ -130,11 +130,12 @@ wide_held v lo hi held wide b stands over = elim wide [
   | inr any ↦ any_wide (v.stock b) lo hi held any (recursion_from_All (IsHeldOver (v.stock b)) held over)
 ]
 
-module _ {hits : Base} {lo hi : ℕ} {counts : WordCountsView} where
-  abbrev Counted : Option CountedWords → Type 0
-  Counted o = IfSome o (λ r. (hits ≡ base.All) × (r ≡ record { low = lo; high = hi; counts = counts }))
+-- where there are counted words, they are these, and every document is a hit
+abbrev IsCountedIn : Base → ℕ → ℕ → WordCountsView → CountedWords → Type 0
+IsCountedIn hits lo hi counts r = (hits ≡ base.All) × (r ≡ record { low = lo; high = hi; counts = counts })
 
-  pub wide_range : (posts : List Post) (listed : List Bool) (found : Base) (o : Option CountedWords) → Counted o
+module _ (hits : Base) (lo hi : ℕ) (counts : WordCountsView) where
+  pub wide_range : (posts : List Post) (listed : List Bool) (found : Base) (o : Option CountedWords) → IfSome o (IsCountedIn hits lo hi counts)
       → MAX_ENTRY_SIZE < length (filter (in_listed listed) (filter (is_between lo hi) posts)) + listed_count hits
       → HasFound hits (base_posts hits (filter (is_between lo hi) posts)) found counts
       → IfSome o (λ r. IsWideFound (filter (is_between r.low r.high) posts) found r.counts)
@@ -146,6 +147,6 @@ module _ {hits : Base} {lo hi : ℕ} {counts : WordCountsView} where
       subst (λ (x : CountedWords). IsWideFound (filter (is_between x.low x.high) posts) found x.counts) (sym some.1)
       (record { found = subst (λ x. HasFound x (base_posts x rows) found counts) some.0 has; many = omega (arith, fewer, none, many) })
 
-  pub wide_fits : (words : ℕ) (o : Option CountedWords) → Counted o → counts.high ≤ words → IfSome o (λ r. r.counts.high ≤ words)
+  pub wide_fits : (words : ℕ) (o : Option CountedWords) → IfSome o (IsCountedIn hits lo hi counts) → counts.high ≤ words → IfSome o (λ r. r.counts.high ≤ words)
   wide_fits words None none few = tt
   wide_fits words (Some r) some few = subst (λ (x : CountedWords). x.counts.high ≤ words) (sym some.1) few

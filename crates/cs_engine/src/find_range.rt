@@ -21,11 +21,7 @@ use cs_tables::WordCounts;
 use std::alloc::Global;
 
 /// The words that a query of these parts asks for alone, where they are many, or what is counted of them is held.
-pub(crate) fn wide_words<I: Source>(
-    index: &I,
-    held: &Holder,
-    parts: &[Part],
-) -> Option<(u32, u32)>
+pub(crate) fn wide_words<I: Source>(index: &I, held: &Holder, parts: &[Part]) -> Option<(u32, u32)>
     requires { IsSource (I.view index.now) }
 
     ensures alone { IfSome result (λ w. AsksAlone (I.view index.now) parts.now w.0 w.1) }

@@ -55,7 +55,13 @@ pub(crate) fn rows_in_hits<I: Source, S: Store>(
 {
     let weights = index.weights();
     let mut gathered = gather_keys(alloc, index, store, words, hits, listed, usize::MAX)?;
-    pack_chosen(weights, index.held(words), words, listed, &mut gathered.keys)?;
+    pack_chosen(
+        weights,
+        index.held(words),
+        words,
+        listed,
+        &mut gathered.keys,
+    )?;
     let rows = ordered(alloc, weights, gathered.keys)?;
     Ok(rows)
 }

@@ -202,12 +202,12 @@ returns-clause-reads g c =
 -- ---- the rows in memory
 pub count_chosen-requires-clause-known : goal.count_chosen-requires-clause-known
 count_chosen-requires-clause-known g c =
-    held_known (g.I.Source.view c.args.index.now) c.requires.opened.source c.held-held.result.now c.held-held.ensures
+    held_known (g.I.Source.view c.args.index.now) c.requires.opened.source _ _ c.held-held.result.now c.held-held.ensures
     (c.requires.listed.long ∙ c.requires.opened.source.long)
 
 pub raise_held-requires-clause-known : goal.raise_held-requires-clause-known
 raise_held-requires-clause-known g c =
-    held_known (g.I.Source.view c.args.index.now) c.requires.opened.source c.held-held.result.now c.held-held.ensures c.loop-k.invariant.len
+    held_known (g.I.Source.view c.args.index.now) c.requires.opened.source _ _ c.held-held.result.now c.held-held.ensures c.loop-k.invariant.len
 
 pub raise_held-requires-clause-long : goal.raise_held-requires-clause-long
 raise_held-requires-clause-long g c = c.requires.listed.long ∙ c.requires.opened.source.long ∙ sym c.loop-k.invariant.len

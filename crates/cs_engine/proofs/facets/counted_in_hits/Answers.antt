@@ -20,7 +20,7 @@ count_keys-requires g c =
 
 pub count_chosen-requires-clause-known : goal.count_chosen-requires-clause-known
 count_chosen-requires-clause-known g c =
-    held_known (g.I.Source.view c.args.index.now) c.requires.sieve.opened.source c.held.result.now c.held.ensures c.requires.sieve.long
+    held_known (g.I.Source.view c.args.index.now) c.requires.sieve.opened.source _ _ c.held.result.now c.held.ensures c.requires.sieve.long
 
 pub returns-clause-told : goal.returns-clause-told
 returns-clause-told g c b is stands =

@@ -33,17 +33,16 @@ returns-clause-told g c b is stands by many p =
       own = tt;
       large = λ none other. large_entry v q hits lo hi c.requires.asks listed c.requires.listed b stands source by
           (filter (in_listed listed) (filter (is_between lo hi) posts)) refl many;
-      range = wide_range posts listed c.in_ok-found.found c.counted_in_all.result c.counted_in_all.ensures many found;
+      range = wide_range hits lo hi c.in_ok-found.counts posts listed c.in_ok-found.found c.counted_in_all.result c.counted_in_all.ensures many found;
     }
 
 pub returns-clause-fits : goal.returns-clause-fits
 returns-clause-fits g c =
     let high = c.in_ok-found.ensures.words in
     let within = c.requires.asks.within in
-    let few = omega (arith, high, within) in
     record {
       base = c.in_ok-found.ensures.base;
-      table = table_there _ few c.in_ok-table.ensures.known;
+      table = table_there _ (omega (arith, high, within)) c.in_ok-table.ensures.known;
       own = tt;
-      range = wide_fits _ c.counted_in_all.result c.counted_in_all.ensures few;
+      range = wide_fits c.args.hits.now c.args.words.0 c.args.words.1 c.in_ok-found.counts _ c.counted_in_all.result c.counted_in_all.ensures (omega (arith, high, within));
     }

@@ -31,17 +31,17 @@ gather_keys-requires-clause-sieve g c =
 -- ---- what is in memory
 pub many_chosen-requires : goal.many_chosen-requires
 many_chosen-requires g c =
-    held_known (g.I.Source.view c.args.over.index.now) c.requires.over.opened.source c.held-held.result.now c.held-held.ensures
+    held_known (g.I.Source.view c.args.over.index.now) c.requires.over.opened.source _ _ c.held-held.result.now c.held-held.ensures
     (ap length c.deref-marks.ensures.value ∙ c.in_ok-listed.ensures.long ∙ c.requires.over.opened.source.long)
 
 pub pack_chosen-requires-clause-packed : goal.pack_chosen-requires-clause-packed
 pack_chosen-requires-clause-packed g c =
     subst (λ (w : Weights). All (IsPacked w) c.held-held.result.now) (sym c.weights-weights.ensures)
-    (held_packed (g.I.Source.view c.args.over.index.now) c.requires.over.opened.source c.held-held.result.now c.held-held.ensures)
+    (held_packed (g.I.Source.view c.args.over.index.now) c.requires.over.opened.source _ _ c.held-held.result.now c.held-held.ensures)
 
 pub pack_chosen-requires-clause-known : goal.pack_chosen-requires-clause-known
 pack_chosen-requires-clause-known g c =
-    held_known (g.I.Source.view c.args.over.index.now) c.requires.over.opened.source c.held-held.result.now c.held-held.ensures
+    held_known (g.I.Source.view c.args.over.index.now) c.requires.over.opened.source _ _ c.held-held.result.now c.held-held.ensures
     (ap length c.deref-marks.ensures.value ∙ c.in_ok-listed.ensures.long ∙ c.requires.over.opened.source.long)
 
 -- ---- too many rows
@@ -138,6 +138,6 @@ returns-clause-told g c b is stands by =
     c.saturating_sub-room.result held c.pack_chosen.new.keys.items had c.in_ok-gathered.ensures.whole few c.held-held.ensures added in
     let o = ordered_by c.weights-weights.ensures c.in_ok-rows.ensures r.rows r.are r.packed in
     let rows = c.in_ok-rows.rows.posts in
-    c.in_ok-found.ensures.told b stands
+    c.in_ok-found-2.ensures.told b stands
     (chosen_entry v c.args.over.query.now c.args.hits lo hi c.requires.asks listed has b stands source
     by rows (ordered_told b v stands source lo hi listed r.rows rows (r.stood b is stands) o))

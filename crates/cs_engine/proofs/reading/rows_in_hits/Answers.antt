@@ -10,11 +10,11 @@ use Rattle.cs_engine.proofs.reading.rows_in_hits.Goals as goal
 pub pack_chosen-requires-clause-packed : goal.pack_chosen-requires-clause-packed
 pack_chosen-requires-clause-packed g c =
     subst (λ (w : Weights). All (IsPacked w) c.held.result.now) (sym c.weights-weights.ensures)
-    (held_packed (g.I.Source.view c.args.index.now) c.requires.sieve.opened.source c.held.result.now c.held.ensures)
+    (held_packed (g.I.Source.view c.args.index.now) c.requires.sieve.opened.source _ _ c.held.result.now c.held.ensures)
 
 pub pack_chosen-requires-clause-known : goal.pack_chosen-requires-clause-known
 pack_chosen-requires-clause-known g c =
-    held_known (g.I.Source.view c.args.index.now) c.requires.sieve.opened.source c.held.result.now c.held.ensures
+    held_known (g.I.Source.view c.args.index.now) c.requires.sieve.opened.source _ _ c.held.result.now c.held.ensures
     c.requires.sieve.long
 
 pub returns-clause-told : goal.returns-clause-told

@@ -90,7 +90,7 @@ loop-k-preserved g c =
 
 pub raise_held-requires-clause-known : goal.raise_held-requires-clause-known
 raise_held-requires-clause-known g c =
-    held_known (g.I.Source.view c.args.index.now) c.requires.sieve.opened.source c.held.result.now c.held.ensures c.loop-k.invariant.len
+    held_known (g.I.Source.view c.args.index.now) c.requires.sieve.opened.source _ _ c.held.result.now c.held.ensures c.loop-k.invariant.len
 
 pub raise_held-requires-clause-long : goal.raise_held-requires-clause-long
 raise_held-requires-clause-long g c = c.requires.sieve.long ∙ sym c.loop-k.invariant.len

@@ -10,7 +10,7 @@ use Rattle.cs_query.specs.RequestView.{asked}
 use Rattle.cs_tables.specs.declared.tables.Completion.{Completion}
 use Rattle.cs_engine.specs.Stocked.{base_hits, corpus_in, present_docs, shown_at}
 use Rattle.cs_engine.proofs.AnsweringLemmas.{hits_few, reply_told, shown_in, words_as_shown}
-use Rattle.cs_engine.proofs.TitlesRead.{filed_shown}
+use Rattle.cs_engine.proofs.TitlesRead.{err_reads, filed_few, filed_shown}
 use Rattle.cs_engine.proofs.WalkLemmas.{within_both}
 use Rattle.cs_engine.proofs.show.show.Goals as goal
 
@@ -47,6 +47,17 @@ returns-clause-told g c b is stands over found =
     reply_told b v stands c.requires.opened.source r c.args.hits.now posts found.found found.within c.in_ok-shown.shown c.in_ok-facets.facets
     c.in_ok-shown_first.shown_first c.args.table.now.total c.in_ok-first.total _
     shown (c.in_ok-facets.ensures.told b is stands over) hits found.total c.in_ok-first.ensures.total refl
+
+-- ---- what is read
+pub returns-in_err-shown_first-clause-reads : goal.returns-in_err-shown_first-clause-reads
+returns-in_err-shown_first-clause-reads g c =
+    let v = g.I.Source.view c.args.over.index.now in
+    let r = asked c.args.over.request.now in
+    let told = err_reads v.index.docs r c.from_residual-in_err-shown_first.result c.from_residual-in_err-shown_first.ensures.0 in
+    let first = c.as_slice-2.ensures ∙ c.in_ok-first.ensures.first in
+    let filed = filed_few v.index.docs c.as_slice-2.result.now in
+    let few = length-take r.hits (drop r.offset (members_in by_rank (base_hits (present_docs v.present) c.args.hits.now))) in
+    within_both c.shown_facets.ensures.reads c.in_err-shown_first.ensures.reads (omega (arith, told, filed, ap length first, few))
 
 pub returns-clause-few : goal.returns-clause-few
 returns-clause-few g c =

@@ -1,4 +1,5 @@
 use Rattle.std.proofs.Common.{◌++◌, List, map, get_or, ap, refl, sym, ◌∙◌, arith}
+use Rattle.std.proofs.lemmas.List.{get_or_default}
 use Rattle.cs_base.specs.declared.content.doc.Scored.{Scored}
 use Rattle.cs_model.specs.Replies.{HitShown}
 use Rattle.cs_model.specs.Requests.{hit_shown}
@@ -18,7 +19,11 @@ returns-in_err-title-clause-store g c =
     (read_fails c.in_err-title.ensures.store))
 
 pub returns-in_err-title-clause-reads : goal.returns-in_err-title-clause-reads
-returns-in_err-title-clause-reads g c = list_stops c.loop-hit.invariant.walk c.loop-hit-test.true c.hit-item.is c.in_err-title.ensures.reads
+returns-in_err-title-clause-reads g c =
+    let i = c.loop-hit.hit-index in
+    let hits = c.args.hits.now in
+    let h = get_or hits i none in
+    list_stops c.loop-hit.invariant.walk c.loop-hit-test.true {x = h} (get_or_default hits i none h c.loop-hit-test.true) c.in_err-title.ensures.reads
 
 pub loop-hit-init : goal.loop-hit-init
 loop-hit-init g c =
@@ -38,7 +43,7 @@ loop-hit-preserved g c =
     let hits = c.args.hits.now in
     let h : Scored = get_or hits i none in
     record {
-      walk = list_goes_on inv.walk c.loop-hit-test.true c.hit-item.is call.store call.reads;
+      walk = list_goes_on inv.walk c.loop-hit-test.true {x = h} (get_or_default hits i none h c.loop-hit-test.true) call.store call.reads;
       docs = docs_more c.loop-hit.shown c.push.new.self hits i none _ c.loop-hit-test.true refl c.in_ok-push.ensures.ok inv.docs;
       told = λ b is stands.
           shown_more (hit_shown (corpus_in ((g.I.Source.view c.args.index.now).stock b))) _ c.loop-hit.shown c.push.new.self hits i none _
