@@ -1,8 +1,7 @@
-use Rattle.std.proofs.Common.{List, ◌*◌, ◌-◌, ◌≤◌, ◌∙◌, ◌++◌, length, map, ap, subst, sym, arith, length-append}
+use Rattle.std.proofs.Common.{◌*◌, ◌-◌, ◌≤◌, ◌∙◌, ◌++◌, length, map, ap, subst, sym, arith, length-append}
 use Rattle.std.specs.Prelude.{All, filter}
 use Rattle.std.proofs.lemmas.Bool.{ltb-false, ltb-true}
 use Rattle.std.proofs.lemmas.List.{length-map}
-use Rattle.cs_base.specs.declared.content.doc.Post.{Post}
 use Rattle.cs_base.specs.declared.content.query.Query.{out-Query}
 use Rattle.cs_base.specs.declared.content.scores.TheConstants.{MAX_ROW_SCORE}
 use Rattle.cs_base.specs.declared.content.scores.Weights.{Weights}

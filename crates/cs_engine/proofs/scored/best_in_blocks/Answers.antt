@@ -1,5 +1,5 @@
 use Rattle.std.proofs.Common.{◌≡◌, ◌+◌, ◌<◌, ◌≤◌, ◌∙◌, ◌++◌, ℕ, [], ap, get_or, length, sym, subst, arith}
-use Rattle.std.specs.Prelude.{All, filter}
+use Rattle.std.specs.Prelude.{All}
 use Rattle.cs_tables.specs.WordCounts.{is_chosen}
 use Rattle.cs_engine.specs.Loose.{HasBestScores}
 use Rattle.cs_engine.specs.IndexReading.{run_of}
