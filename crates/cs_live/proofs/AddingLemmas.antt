@@ -108,6 +108,7 @@ module _ (s : StateView) (is : IsState s) (t : List ℕ) where
         held = All-weaker (IsIn (source_now s)) (IsIn (source_now new)) held_more s.held is.held;
         held_sorted = is.held_sorted;
         held_later = is.held_later;
+        by_word = is.by_word;
         titles = All-append (λ x. is_utf8 x ≡ true) s.added (t ∷ []) is.titles (All-from_recursion (λ x. is_utf8 x ≡ true) (t ∷ []) (text, tt));
       }
 

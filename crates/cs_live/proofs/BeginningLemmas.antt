@@ -33,6 +33,7 @@ use Rattle.cs_model_index.proofs.ImageLemmas.{titles_listed}
 use Rattle.cs_model_index.proofs.TextLimits.{word_length}
 use Rattle.cs_live.specs.Lives.{AreWaiting, IsGoodRow, LiveView, changing}
 use Rattle.cs_live.specs.States.{IsState, StateView, now_posts, opened_state, renumbered, source_now, stock_now, titles_now}
+use Rattle.cs_live.proofs.ByWordLemmas.{none_by}
 use Rattle.cs_live.proofs.PresentTitles.{titled_all}
 
 -- ---- numbers from 0 on
@@ -81,6 +82,7 @@ opened_is i is =
       held = All-nil (IsIn (source_now (opened_state i)));
       held_sorted = no_posts;
       held_later = All-nil (λ (p : Post). i.docs ≤ p.doc);
+      by_word = none_by;
       titles = All-nil (λ t. is_utf8 t ≡ true);
     }
 

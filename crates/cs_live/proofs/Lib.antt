@@ -1,3 +1,4 @@
+pub mod ByWordLemmas
 pub mod NumberLemmas
 pub mod NowLemmas
 pub mod PresentTitles

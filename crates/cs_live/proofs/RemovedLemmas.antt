@@ -32,6 +32,7 @@ use Rattle.cs_model_index.specs.Numbered.{row_of, rows_at}
 use Rattle.cs_model_index.specs.Sections.{image_of}
 use Rattle.cs_live.specs.Lives.{AreWaiting}
 use Rattle.cs_live.specs.States.{IsState, StateView, now_posts, renumbered, source_now, stock_now, without_doc}
+use Rattle.cs_live.proofs.ByWordLemmas.{kept_by}
 use Rattle.cs_live.proofs.PresentTitles.{there_set, titled_gone}
 
 -- ---- numbers
@@ -83,6 +84,7 @@ module _ (s : StateView) (is : IsState s) (d : ℕ) where
         held = All-weaker (λ p. IsIn (source_now s) p × (not (p.doc == d) ≡ true)) (IsIn (source_now (without_doc s d))) held_still (filter t s.held) (λ k e l. (kept k e l, passed k e l));
         held_sorted = IsStrictlySortedBy-filter by_place t s.held is.held_sorted;
         held_later = All-filter t (λ p. s.index.docs ≤ p.doc) s.held is.held_later;
+        by_word = kept_by t s.held s.by_word is.by_word;
         titles = is.titles;
       }
 

@@ -4,7 +4,9 @@
 --   moved_shift     numbers through both vocabularies
 --   moved_posts     the index's posts as they are behind
 --   met_words       the words of a state and of rows that wait are words
+--   by_word_known   the words of rows in memory are words of the state
 --   settled_is      a state it is
+--   settled_placed  its rows in memory in order of place are the listing of those by word
 --   settled_rows    with the rows behind its own
 --   taken, none_settled    rows that wait are brought in; no rows are
 --   settled_keeps, same_keeps    the corpus stays where they are brought in, or wait on
@@ -33,7 +35,7 @@ use Rattle.cs_base.specs.declared.content.doc.Post.{Post}
 use Rattle.cs_base.specs.declared.content.doc.Row.{Row}
 use Rattle.cs_base.specs.declared.content.limits.TheConstants.{MAX_WORDS}
 use Rattle.cs_base.proofs.MembersLemmas.{all_then, is_member-listed, listed_itself, listing-rises, members-alike}
-use Rattle.cs_engine.specs.IndexReading.{IsWithin, stock_of}
+use Rattle.cs_engine.specs.IndexReading.{IsWithin, by_post, stock_of}
 use Rattle.cs_engine.specs.Sources.{IsIn, is_there}
 use Rattle.cs_engine.proofs.CountingLemmas.{stock_within}
 use Rattle.cs_file.specs.Indexes.{StandsFor}
@@ -48,9 +50,10 @@ use Rattle.cs_model_index.proofs.NumberedLemmas.{number_below, number_of_word, p
 use Rattle.cs_model_index.proofs.TextLimits.{word_length}
 use Rattle.cs_live.specs.Lives.{AreWaiting, IsGoodRow, IsSettled, KeepsCorpus}
 use Rattle.cs_live.specs.Settling.{AreSettled, HaveWordSize, row_posts, words_met}
-use Rattle.cs_live.specs.States.{IsState, StateView, now_posts, renumbered, source_now, stock_now}
+use Rattle.cs_live.specs.States.{AreByWord, IsState, StateView, now_posts, renumbered, source_now, stock_now}
 use Rattle.cs_live.specs.declared.settling.Settled.{Settled}
 use Rattle.cs_live.proofs.BeginningLemmas.{none_waiting}
+use Rattle.cs_live.proofs.ByWordLemmas.{all_by, placed}
 use Rattle.cs_live.proofs.NowLemmas.{all_now, new_rises, sorted_behind}
 
 -- ---- numbers through another vocabulary
@@ -197,32 +200,49 @@ module _ (ws own : List (List ℕ)) (second : List ℕ) (up : IsStrictlySortedBy
   rows_known [] (r ∷ rows) e l = no_rows_left _ r.word (map (λ r. r.word) rows) e
   rows_known (n ∷ ns) (r ∷ rows) e l = (has_here n r.word l.0 (ap (λ x. get_or x 0 []) e), rows_known ns rows (ap (drop 1) e) l.1)
 
-pub brought : (words : List (List ℕ)) (shift : List ℕ) (held : List Post) (rows : List Row) (own : List (List ℕ)) (ns : List ℕ) (m : Merging) (s : Settled) (new : List Post) → AreMerged words own m → own ≡ distinct_words rows
+pub brought : (words : List (List ℕ)) (shift : List ℕ) (by_word : List Post) (rows : List Row) (own : List (List ℕ)) (ns : List ℕ) (m : Merging) (s : Settled) (new : List Post) → AreMerged words own m → own ≡ distinct_words rows
     → AreNumbers own ns (map (λ r. r.word) rows) → s.words ≡ m.words.items → s.shift.items ≡ map (λ n. get_or m.first.items n 0) shift
-    → new ≡ map (renumbered m.first.items) held ++ row_posts m.second.items ns rows → AreSettled words shift held rows s new
-brought words shift held rows own ns m s new h own_is numbers same shift_is held_is =
+    → ((held : List Post) → AreByWord held by_word → AreByWord (map (renumbered m.first.items) held ++ row_posts m.second.items ns rows) new) → AreSettled words shift by_word rows s new
+brought words shift by_word rows own ns m s new h own_is numbers same shift_is by_word_is =
     let below = recursion_from_All (IsBelow (length own)) ns numbers.below in
+    let posts = posts_are m.words.items own m.second.items h.rises h.second ns rows numbers.told below ∙ ap (λ ws. numbered ws rows) (sym same) in
     record {
       first = m.first.items;
       is = subst (λ ws. IsShift words ws m.first.items) (sym same) h.first;
       all = same ∙ h.words ∙ ap (λ ws. members_in (slice_cmp nat_cmp) (words ++ ws)) own_is ∙ met_distinct words rows;
       known = subst (λ ws. AllByRecursion (HasWord ws) rows) (sym same) (rows_known m.words.items own m.second.items h.rises h.second ns rows numbers.told below);
       numbers = shift_is;
-      posts = held_is ∙ ap (λ ps. map (renumbered m.first.items) held ++ ps) (posts_are m.words.items own m.second.items h.rises h.second ns rows numbers.told below
-          ∙ ap (λ ws. numbered ws rows) (sym same));
+      posts = λ held is. subst (λ ps. AreByWord (map (renumbered m.first.items) held ++ ps) new) posts (by_word_is held is);
     }
 
 -- ---- the state behind
-abbrev pub settled_state : StateView → Settled → List Post → StateView
-settled_state s m held = record { index = s.index; words = m.words; shift = m.shift.items; present = s.present; whole = s.whole; held = held; added = s.added }
+abbrev pub settled_state : StateView → Settled → List Post → List Post → StateView
+settled_state s m held by_word = record {
+  index = s.index;
+  words = m.words;
+  shift = m.shift.items;
+  present = s.present;
+  whole = s.whole;
+  held = held;
+  by_word = by_word;
+  added = s.added;
+}
 
-module _ (s : StateView) (is : IsState s) (rows : List Row) (w : AreWaiting s rows) (m : Settled) (held : List Post)
-    (h : AreSettled s.words s.shift s.held rows m held) where
-  abbrev new : StateView
-  new = settled_state s m held
+pub by_word_known : (s : StateView) → IsState s → All (λ p. p.word < length s.words) s.by_word
+by_word_known s is =
+    all_by (λ p. p.word < length s.words) s.held s.by_word is.by_word
+    (All-weaker (IsIn (source_now s)) (λ p. p.word < length s.words) (λ p i. i.ranged.word) s.held is.held)
 
+module _ (s : StateView) (is : IsState s) (rows : List Row) (w : AreWaiting s rows) (m : Settled) (by_word : List Post)
+    (h : AreSettled s.words s.shift s.by_word rows m by_word) where
   abbrev own : List Post
   own = numbered m.words rows
+
+  abbrev pub held_behind : List Post
+  held_behind = map (renumbered h.first) s.held ++ own
+
+  abbrev new : StateView
+  new = settled_state s m held_behind by_word
 
   known : AllByRecursion (HasWord m.words) rows
   known = h.known
@@ -263,9 +283,25 @@ module _ (s : StateView) (is : IsState s) (rows : List Row) (w : AreWaiting s ro
   rises : IsStrictlySortedBy (slice_cmp nat_cmp) m.words
   rises = subst (IsStrictlySortedBy (slice_cmp nat_cmp)) (sym h.all) (met_rises s.words rows)
 
-  pub settled_is : length (words_met s.words rows) ≤ MAX_WORDS → IsState (settled_state s m held)
+  from_rows : AllByRecursion (λ r. w.from ≤ r.doc) rows
+  from_rows = recursion_from_All (λ r. w.from ≤ r.doc) rows w.rows_from
+
+  held_sorted : AreSorted held_behind
+  held_sorted =
+      sorted_behind w.from (map (renumbered h.first) s.held) own
+      (new_rises h.first h.is.rises s.held (all_then (λ p. p.word < length s.words) (λ p. p.word < length h.first) (λ p lt. in_first s.words m.words h.first h.is p.word lt) s.held held_words) is.held_sorted)
+      (posts_ascend m.words rises rows known w.spots)
+      (docs_moved w.from s.held (recursion_from_All (λ p. p.doc < w.from) s.held w.held_below))
+      (docs_from w.from rows from_rows)
+
+  held_by_word : AreByWord held_behind by_word
+  held_by_word = h.posts s.held is.by_word
+
+  pub settled_placed : held_behind ≡ members_in by_post by_word
+  settled_placed = placed held_behind by_word held_sorted held_by_word
+
+  pub settled_is : length (words_met s.words rows) ≤ MAX_WORDS → IsState (settled_state s m held_behind by_word)
   settled_is few =
-      let rec : AllByRecursion (λ r. w.from ≤ r.doc) rows = recursion_from_All (λ r. w.from ≤ r.doc) rows w.rows_from in
       let behind = w.behind in
       record {
         index = is.index;
@@ -277,25 +313,19 @@ module _ (s : StateView) (is : IsState s) (rows : List Row) (w : AreWaiting s ro
         shift = subst (IsShift s.index.words m.words) (sym h.numbers) (moved_shift s.words m.words h.first h.is s.index.words s.shift is.shift);
         count = is.count;
         whole = is.whole;
-        held = subst (All (IsIn (source_now new))) (sym h.posts)
-            (All-append (IsIn (source_now new)) (map (renumbered h.first) s.held) own
+        held = All-append (IsIn (source_now new)) (map (renumbered h.first) s.held) own
             (All-map (IsIn (source_now new)) (renumbered h.first) s.held (All-weaker (IsIn (source_now s)) (λ p. IsIn (source_now new) (renumbered h.first p)) held_in s.held is.held))
             (All-from_recursion (IsIn (source_now new)) own (row_in rows (recursion_from_All (IsGoodRow s.index.weights) rows w.good)
-            (recursion_from_All (λ r. get_or s.present r.doc false ≡ true) rows w.there) (recursion_from_All (λ r. r.doc < length s.present) rows w.below) known)));
-        held_sorted = subst AreSorted (sym h.posts)
-            (sorted_behind w.from (map (renumbered h.first) s.held) own
-            (new_rises h.first h.is.rises s.held (all_then (λ p. p.word < length s.words) (λ p. p.word < length h.first) (λ p lt. in_first s.words m.words h.first h.is p.word lt) s.held held_words) is.held_sorted)
-            (posts_ascend m.words rises rows known w.spots)
-            (docs_moved w.from s.held (recursion_from_All (λ p. p.doc < w.from) s.held w.held_below))
-            (docs_from w.from rows rec));
-        held_later = subst (All (λ p. s.index.docs ≤ p.doc)) (sym h.posts)
-            (All-append (λ p. s.index.docs ≤ p.doc) (map (renumbered h.first) s.held) own
+            (recursion_from_All (λ r. get_or s.present r.doc false ≡ true) rows w.there) (recursion_from_All (λ r. r.doc < length s.present) rows w.below) known));
+        held_sorted = held_sorted;
+        held_later = All-append (λ p. s.index.docs ≤ p.doc) (map (renumbered h.first) s.held) own
             (All-from_recursion (λ p. s.index.docs ≤ p.doc) (map (renumbered h.first) s.held) (later_moved s.index.docs s.held (recursion_from_All (λ p. s.index.docs ≤ p.doc) s.held is.held_later)))
-            (All-from_recursion (λ p. s.index.docs ≤ p.doc) own (docs_from s.index.docs rows (all_then (λ r. w.from ≤ r.doc) (λ r. s.index.docs ≤ r.doc) (λ r l. omega (arith, l, behind)) rows rec))));
+            (All-from_recursion (λ p. s.index.docs ≤ p.doc) own (docs_from s.index.docs rows (all_then (λ r. w.from ≤ r.doc) (λ r. s.index.docs ≤ r.doc) (λ r l. omega (arith, l, behind)) rows from_rows)));
+        by_word = held_by_word;
         titles = is.titles;
       }
 
-  pub settled_rows : (b : List ℕ) → StandsFor b s.index → rows_at m.words (stock_now (settled_state s m held) b).posts ≡ rows_at s.words (stock_now s b).posts ++ rows
+  pub settled_rows : (b : List ℕ) → StandsFor b s.index → rows_at m.words (stock_now (settled_state s m held_behind by_word) b).posts ≡ rows_at s.words (stock_now s b).posts ++ rows
   settled_rows b stands =
       let old = (stock_of b).posts in
       let long = is.shift.long in
@@ -306,7 +336,7 @@ module _ (s : StateView) (is : IsState s) (rows : List Row) (w : AreWaiting s ro
       (all_now s.shift s.present (λ p. p.word < length s.shift) (λ p. p.word < length s.words) old (λ p e lt. is.shift.below p.word 0 lt) old_words) in
       let front : now_posts m.shift.items s.present old ≡ map (renumbered h.first) now =
       ap (λ ns. now_posts ns s.present old) h.numbers ∙ moved_posts h.first s.shift s.present old old_words in
-      ap₂ (λ xs ys. rows_at m.words (xs ++ ys)) front h.posts
+      ap (λ xs. rows_at m.words (xs ++ held_behind)) front
       ∙ map-append (row_of m.words) (map (renumbered h.first) now) (map (renumbered h.first) s.held ++ own)
       ∙ ap₂ (λ xs ys. xs ++ ys) (moved_rows s.words m.words h.first h.is now now_words)
       (map-append (row_of m.words) (map (renumbered h.first) s.held) own
@@ -316,21 +346,22 @@ module _ (s : StateView) (is : IsState s) (rows : List Row) (w : AreWaiting s ro
 
 -- where the state's own parts were handed on
 pub taken : (s now : StateView) → s ≡ now → IsState now → (rows : List Row) → AreWaiting now rows → (shift : List ℕ) → shift ≡ s.shift
-    → (m : Settled) (new_held : List Post) → AreSettled s.words shift s.held rows m new_held → length (words_met now.words rows) ≤ MAX_WORDS → 1 ≤ length rows
-    → IsSettled now rows (settled_state s m new_held)
-taken s now same is rows w shift shift_is m new_held h few some =
-    let own : AreSettled now.words now.shift now.held rows m new_held = subst (λ x. AreSettled x.words x.shift x.held rows m new_held) same
-    (subst (λ ns. AreSettled s.words ns s.held rows m new_held) shift_is h) in
-    subst (λ x. IsSettled now rows (settled_state x m new_held)) (sym same) (record {
-      is = settled_is now is rows w m new_held own few;
+    → (m : Settled) (by_word : List Post) → AreSettled s.words shift s.by_word rows m by_word → length (words_met now.words rows) ≤ MAX_WORDS → 1 ≤ length rows
+    → IsSettled now rows (settled_state s m (members_in by_post by_word) by_word)
+taken s now same is rows w shift shift_is m by_word h few some =
+    let own : AreSettled now.words now.shift now.by_word rows m by_word = subst (λ x. AreSettled x.words x.shift x.by_word rows m by_word) same
+    (subst (λ ns. AreSettled s.words ns s.by_word rows m by_word) shift_is h) in
+    subst (λ x. IsSettled now rows (settled_state x m (members_in by_post by_word) by_word)) (sym same)
+    (subst (λ held. IsSettled now rows (settled_state now m held by_word)) (settled_placed now is rows w m by_word own) (record {
+      is = settled_is now is rows w m by_word own few;
       index = refl;
       present = refl;
       whole = refl;
       added = refl;
       words = own.all;
-      rows = settled_rows now is rows w m new_held own;
+      rows = settled_rows now is rows w m by_word own;
       same = λ none. absurd (let e = ap length none in omega (arith, e, some));
-    })
+    }))
 
 -- where no rows wait
 pub none_settled : (s : StateView) → IsState s → (rows : List Row) → rows ≡ [] → IsSettled s rows s

@@ -8,12 +8,11 @@
 --   state_source   a state is a source
 --   many_now       where no document of the index is gone it has as many posts as the index, or more
 use Rattle.std.proofs.Common.{◌≡◌, ℕ, ◌+◌, ◌-◌, ◌<◌, ◌≤◌, ◌==◌, ◌&&◌, ◌||◌, Bool, true, false, List, [], ◌∷◌, ◌++◌, length, get_or, take, drop, map, replicate}
-use Rattle.std.proofs.Common.{refl, sym, ap, subst, ◌∙◌, arith, append-nil}
+use Rattle.std.proofs.Common.{refl, sym, ap, ap₂, subst, ◌∙◌, arith, append-nil}
 use Rattle.std.specs.Prelude.{All, filter, flat_map, nat_le, nat_lt}
 use Rattle.std.specs.FinMap.{contains_key}
 use Rattle.std.specs.List.{AllByRecursion, list_any}
 use Rattle.std.specs.Str.{bytes_eq}
-use Rattle.std.proofs.Math.Bool.{and_comm}
 use Rattle.std.proofs.lemmas.Bool.Decides.{nat_tests}
 use Rattle.std.proofs.lemmas.List.{get_or-replicate, length-append, length-map}
 use Rattle.std.proofs.lemmas.List.Elements.{All-nil, All-append, All-filter, All-weaker, filter-append, recursion_from_All}
@@ -47,6 +46,7 @@ use Rattle.cs_engine.proofs.FoundLemmas.{stays}
 use Rattle.cs_engine.proofs.OpenedLemmas.{opened_told}
 use Rattle.cs_engine.proofs.StockLemmas.{docs_are, score_fits, stocked}
 use Rattle.cs_live.specs.States.{IsState, StateView, now_posts, rank, renumbered, source_now, stock_now, titles_now}
+use Rattle.cs_live.proofs.ByWordLemmas.{all_by, any_by, countable_by, swapped}
 use Rattle.cs_live.proofs.NumberLemmas.{known_word, old_met_prefix, old_met_word, old_range, old_span, rank_step}
 use Rattle.cs_live.proofs.NowLemmas.{all_now, between_now, block_now, chosen_now, dropped_parts, drop_map, flat_parts, flat_same, flat_through, now_flat, now_pieces, now_rises, sorted_behind}
 use Rattle.cs_live.proofs.NowLemmas.{take_map, taken_parts}
@@ -61,13 +61,7 @@ flat_whole : (P : Post → Type 0) (bs : List (List Post)) → AllByRecursion (�
 flat_whole P [] h = All-nil P
 flat_whole P (b ∷ bs) h = All-append P b (flat_map (λ block. block) bs) h.0 (flat_whole P bs h.1)
 
--- ---- tests that come in either order
-swapped : (t u : Post → Bool) (xs : List Post) → filter u (filter t xs) ≡ filter t (filter u xs)
-swapped t u xs =
-    sym (filter_twice t u xs)
-    ∙ filter_alike (λ x. t x && u x) (λ x. u x && t x) xs (all_of (λ x. (t x && u x) ≡ (u x && t x)) (λ x. and_comm (t x) (u x)) xs)
-    ∙ filter_twice u t xs
-
+-- ---- tests of numbers
 one_number : (w m : ℕ) → (m == w) ≡ (nat_le w m && nat_lt m (w + 1))
 one_number w m = grind (arith, nat_tests)
 
@@ -161,20 +155,20 @@ module _ (s : StateView) (is : IsState s) where
 
     now_any : (t : Post → Bool) → list_any t (all_rows (source_now s) b) ≡ list_any t (stock_now s b).posts
     now_any t =
-        ap (λ xs. list_any t (xs ++ s.held)) (now_flat s.shift s.present (image_of b).blocks)
-        ∙ list_any-append t (N flat) s.held
-        ∙ ap (λ c. c || list_any t s.held) (any_now t flat ∙ flat_any (older t) ∙ sym (any_now t old))
+        ap (λ xs. list_any t (xs ++ s.by_word)) (now_flat s.shift s.present (image_of b).blocks)
+        ∙ list_any-append t (N flat) s.by_word
+        ∙ ap₂ (λ c d. c || d) (any_now t flat ∙ flat_any (older t) ∙ sym (any_now t old)) (any_by t s.held s.by_word is.by_word)
         ∙ sym (list_any-append t (N old) s.held)
 
-    both_long : (t : Post → Bool) (xs : List Post) → length (filter t (xs ++ s.held)) ≡ length (filter t xs) + length (filter t s.held)
-    both_long t xs = ap length (filter-append t xs s.held) ∙ length-append (filter t xs) (filter t s.held)
+    both_long : (t : Post → Bool) (xs ys : List Post) → length (filter t (xs ++ ys)) ≡ length (filter t xs) + length (filter t ys)
+    both_long t xs ys = ap length (filter-append t xs ys) ∙ length-append (filter t xs) (filter t ys)
 
     now_long : (t : Post → Bool) → length (filter t (all_rows (source_now s) b)) ≡ length (filter t (stock_now s b).posts)
     now_long t =
-        ap (λ xs. length (filter t (xs ++ s.held))) (now_flat s.shift s.present (image_of b).blocks)
-        ∙ both_long t (N flat)
-        ∙ ap (λ n. n + length (filter t s.held)) (long_now t flat ∙ flat_long (older t) ∙ sym (long_now t old))
-        ∙ sym (both_long t (N old))
+        ap (λ xs. length (filter t (xs ++ s.by_word))) (now_flat s.shift s.present (image_of b).blocks)
+        ∙ both_long t (N flat) s.by_word
+        ∙ ap₂ (λ m n. m + n) (long_now t flat ∙ flat_long (older t) ∙ sym (long_now t old)) (is.by_word.same t)
+        ∙ sym (both_long t (N old) s.held)
 
     -- ---- blocks that hold some words
     between_posts : (lo hi : ℕ) (xs : List Post) → All (λ p. p.word < length s.shift) xs
@@ -250,7 +244,7 @@ module _ (s : StateView) (is : IsState s) where
           (old_in_order rl rh (rank_step s.shift is.shift.rises w)))
 
       countable_now : (lo hi : ℕ) (listed : List Bool)
-          → AreCountable (counted_rows (map N (image_of b).blocks) first last lo hi listed ++ filter (is_chosen lo hi listed) s.held)
+          → AreCountable (counted_rows (map N (image_of b).blocks) first last lo hi listed ++ filter (is_chosen lo hi listed) s.by_word)
       countable_now lo hi listed =
           let u = is_chosen lo hi listed in
           let cut = take (last - first) (drop first (image_of b).blocks) in
@@ -259,7 +253,7 @@ module _ (s : StateView) (is : IsState s) where
           ap (flat_map (filter u)) (cut_now first last) ∙ flat_filter u (map N cut) ∙ ap (filter u) (now_flat s.shift s.present cut) in
           let few = is.few_docs in
           let count = is.count in
-          subst (λ xs. AreCountable (xs ++ more)) (sym piece) (record {
+          subst (λ xs. AreCountable (xs ++ filter u s.by_word)) (sym piece) (countable_by (filter u (N some)) s.held s.by_word u is.by_word (record {
             ordered = λ w.
                 let here = with_word w (filter u (N some)) in
                 let front : AreSorted here = subst AreSorted (sym (swapped u (λ p. p.word == w) (N some)))
@@ -280,7 +274,7 @@ module _ (s : StateView) (is : IsState s) where
                 (λ p e h. omega (arith, h.1, few, count)) some_known))
                 (All-filter u (λ p. p.doc < MAX_DOCS) s.held
                 (All-weaker (IsIn (source_now s)) (λ p. p.doc < MAX_DOCS) (λ p h. (let doc = h.ranged.doc in omega (arith, doc, few))) s.held is.held));
-          })
+          }))
 
     -- ---- over the bytes
     now_stocked : IsStocked (stock_now s b)
@@ -314,7 +308,7 @@ module _ (s : StateView) (is : IsState s) where
     few_words = is.few_words;
     ascending = is.ascending;
     texts = is.texts;
-    held = is.held;
+    held = all_by (IsIn (source_now s)) s.held s.by_word is.by_word is.held;
     prefix_met = λ p lo hi range. old_met_prefix s.index s.words s.shift is.shift is.index p lo hi range;
     word_met = λ w lo hi span short none. old_met_word s.index s.words s.shift is.shift is.index w lo hi span short;
     prefix_held = λ p lo hi range.
@@ -339,6 +333,6 @@ module _ (s : StateView) (is : IsState s) where
       (old_within b stands))) in
       let same : length (filter (is_between lo hi) (N posts)) ≡ length mine = ap length (between_posts b stands lo hi posts (stock_known b stands))
       ∙ length-map (filter (is_there s.present) mine) (renumbered s.shift) ∙ ap length (stays (is_there s.present) mine all_there) in
-      let both = both_long b stands (is_between lo hi) (N posts) in
+      let both = both_long b stands (is_between lo hi) (N posts) s.held in
       let more = many b stands in
       omega (arith, same, both, more)

@@ -6,7 +6,7 @@
 --   HaveWordSize rows       the word of each has as many bytes as a word may have
 --   row_posts second ns rows    the posts of rows whose words have the numbers ns, which stand for others
 --   AreMergedWith words rows m      words, and those of rows, in one order
---   AreSettled words shift held rows m new    what a state has in place of words, numbers and posts, with rows brought in
+--   AreSettled words shift by_word rows m new     what a state has in place of words, numbers and posts, with rows brought in
 use Rattle.std.specs.Prelude.{◌≡◌, ℕ, List, [], ◌∷◌, ◌++◌, map, slice_index_or}
 use Rattle.std.specs.List.{AllByRecursion}
 use Rattle.std.specs.List.Sorted.{IsStrictlySortedBy}
@@ -18,7 +18,7 @@ use Rattle.cs_base.specs.declared.content.doc.Row.{Row}
 use Rattle.cs_merge.specs.Vocabularies.{AreOfWordSize, IsShift}
 use Rattle.cs_merge.specs.declared.vocabulary.Merging.{Merging}
 use Rattle.cs_model_index.specs.Numbered.{HasWord, numbered}
-use Rattle.cs_live.specs.States.{renumbered}
+use Rattle.cs_live.specs.States.{AreByWord, renumbered}
 use Rattle.cs_live.specs.declared.settling.Settled.{Settled}
 
 -- by bytes; of no rows the words themselves, where they ascend
@@ -40,12 +40,12 @@ pub record AreMergedWith (words : List (List ℕ)) (rows : List Row) (m : Mergin
   pub all : m.words.items ≡ words_met words rows
   pub rises : IsStrictlySortedBy (slice_cmp nat_cmp) m.words.items
 
--- the numbers of the words before among those behind are `first`; all posts stay, and the rows come behind them; of no rows nothing changes but
--- memory
-pub record AreSettled (words : List (List ℕ)) (shift : List ℕ) (held : List Post) (rows : List Row) (m : Settled) (new : List Post) : Type 0 where
+-- the numbers of the words before among those behind are `first`; all posts stay, and the rows come behind them in order of place, whatever
+-- posts these are by their words; of no rows nothing changes but memory
+pub record AreSettled (words : List (List ℕ)) (shift : List ℕ) (by_word : List Post) (rows : List Row) (m : Settled) (new : List Post) : Type 0 where
   pub first : List ℕ
   pub is : IsShift words m.words first
   pub all : m.words ≡ words_met words rows
   pub known : AllByRecursion (HasWord m.words) rows
   pub numbers : m.shift.items ≡ map (λ n. slice_index_or first n 0) shift
-  pub posts : new ≡ map (renumbered first) held ++ numbered m.words rows
+  pub posts : (held : List Post) → AreByWord held by_word → AreByWord (map (renumbered first) held ++ numbered m.words rows) new

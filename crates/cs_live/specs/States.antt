@@ -3,12 +3,13 @@
 -- Source: this engine's own, over `Sources` of cs_engine.
 --
 --   StateView            an index, the words of it and of what was added, the number of each word of the index among these, which numbers are
---                        those of documents, whether all of the index are there, the rows of added documents that are there, and the titles
---                        of all that were added
+--                        those of documents, whether all of the index are there, the rows of added documents that are there in order of place,
+--                        the same rows in the order of their words, and the titles of all that were added
 --   AreOwnNumbers shift  each word of the index has its own number, as where no words were added
 --   rank shift n         how many words of the index have a number below n
 --   renumbered shift p   a post of the index with the number that its word has now
 --   now_posts shift present posts    posts of the index as they are now, without those of documents that are gone
+--   AreByWord held by_word           rows in the order of their words, those of a word as they stand in the first list
 --   titles_now present titles        titles at the numbers that are those of documents
 --   stock_now s b        what a state has over the bytes of its index
 --   source_now s          a state as a source
@@ -24,7 +25,7 @@ use Rattle.std.specs.Prelude.{◌≡◌, ℕ, ◌+◌, ◌-◌, ◌≤◌, ◌<�
 use Rattle.std.specs.Prelude.{Option, slice_index_or, slice_set, if◌then◌else◌}
 use Rattle.std.specs.List.{All, range_with_len}
 use Rattle.std.specs.FinMap as map
-use Rattle.std.specs.List.Sorted.{IsStrictlySortedBy}
+use Rattle.std.specs.List.Sorted.{IsNonDecreasingBy, IsStrictlySortedBy}
 use Rattle.std.specs.Ordering.{nat_cmp}
 use Rattle.std.specs.Cmp.Lexicographic.{slice_cmp}
 use Rattle.std.specs.Str.{IsUtf8, is_utf8}
@@ -35,6 +36,7 @@ use Rattle.cs_base.specs.declared.content.scores.TheConstants.{MAX_ROW_SCORE}
 use Rattle.cs_file.specs.CallAnswers.{AreScoredOf, IsRanged}
 use Rattle.cs_file.specs.Indexes.{IndexView, IsIndex, block_posts}
 use Rattle.cs_file.specs.declared.fetched.Fetched.{Fetched}
+use Rattle.cs_tables.specs.TableListings.{with_word}
 use Rattle.cs_tables.specs.WordCounts.{is_chosen}
 use Rattle.cs_merge.specs.Vocabularies.{AreOfWordSize, IsShift}
 use Rattle.cs_model.specs.Corpus.{by_number}
@@ -51,6 +53,7 @@ pub record StateView : Type 0 where
   pub present : List Bool
   pub whole : Bool
   pub held : List Post
+  pub by_word : List Post
   pub added : List (List ℕ)
 
 -- of no numbers it holds
@@ -70,6 +73,12 @@ renumbered shift p = record { doc = p.doc; word = slice_index_or shift p.word 0;
 abbrev pub now_posts : List ℕ → List Bool → List Post → List Post
 now_posts shift present posts = map (renumbered shift) (filter (is_there present) posts)
 
+-- the same rows, so that those of a range of words lie together; of no rows it holds
+pub record AreByWord (held by_word : List Post) : Type 0 where
+  pub ascending : IsNonDecreasingBy (λ p. p.word) by_word
+  pub each : (w : ℕ) → with_word w by_word ≡ with_word w held
+  pub same : (t : Post → Bool) → length (filter t by_word) ≡ length (filter t held)
+
 -- each in its place in the list; a number that is gone has none
 abbrev pub titles_now : List Bool → List (List ℕ) → map.FinMap nat_cmp (List ℕ)
 titles_now present titles = map.retain_keys (by_number titles) (λ d. slice_index_or present d false)
@@ -82,14 +91,14 @@ stock_now s b = record {
   posts = now_posts s.shift s.present (stock_of b).posts ++ s.held;
 }
 
--- its blocks are those of the index as they are now
+-- its blocks are those of the index as they are now, and its rows in memory those of added documents by their words
 abbrev pub source_now : StateView → SourceView
 source_now s = record {
   index = s.index;
   docs = length s.present;
   present = s.present;
   words = s.words;
-  held = s.held;
+  held = s.by_word;
   before = rank s.shift;
   stock = stock_now s;
   blocks = λ b. map (now_posts s.shift s.present) (image_of b).blocks;
@@ -97,7 +106,16 @@ source_now s = record {
 
 -- all of its documents are there, and none more
 abbrev pub opened_state : IndexView → StateView
-opened_state i = record { index = i; words = i.words; shift = range_with_len 0 (length i.words); present = replicate i.docs true; whole = true; held = []; added = [] }
+opened_state i = record {
+  index = i;
+  words = i.words;
+  shift = range_with_len 0 (length i.words);
+  present = replicate i.docs true;
+  whole = true;
+  held = [];
+  by_word = [];
+  added = [];
+}
 
 -- its number is the next one
 abbrev pub with_title : StateView → List ℕ → StateView
@@ -109,6 +127,7 @@ without_doc s d = record s {
   present = slice_set s.present d false;
   whole = s.whole && nat_le s.index.docs d;
   held = filter (λ p. not (p.doc == d)) s.held;
+  by_word = filter (λ p. not (p.doc == d)) s.by_word;
 }
 
 -- whatever store its index was opened over; an added document's number is behind those of the index, and each row in memory is of a document
@@ -126,6 +145,7 @@ pub record IsState (s : StateView) : Type 0 where
   pub held : All (IsIn (source_now s)) s.held
   pub held_sorted : AreSorted s.held
   pub held_later : All (λ p. s.index.docs ≤ p.doc) s.held
+  pub by_word : AreByWord s.held s.by_word
   pub titles : All (λ t. is_utf8 t ≡ true) s.added
 
 -- ---- what is read

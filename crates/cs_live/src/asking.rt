@@ -2,7 +2,7 @@
 ghost use Rattle.std.specs.Prelude.{◌≡◌, ◌≤◌, Err, [], length, IfOk};
 ghost use Rattle.std.specs.List.{All};
 ghost use Rattle.cs_base.specs.outside.Causes.{ReadsWithin};
-ghost use Rattle.cs_engine.specs.{Asking.{division, titles_asked}, HeldRanges.{FitsRange, range_bytes}, IndexReading.{OnlyReads, WhereStood}};
+ghost use Rattle.cs_engine.specs.{Asking.{division, filed_titles}, HeldRanges.{FitsRange, range_bytes}, IndexReading.{OnlyReads, WhereStood}};
 ghost use Rattle.cs_engine.specs.{Sources.{seen}, Stocked.{corpus_in}};
 ghost use Rattle.cs_engine.specs.Keeping.{AnswersRight, AreGoodFor, KeepsAnswers, KeepsFitting, engine_with, note_plan};
 ghost use Rattle.cs_file.specs.Indexes.{HasAllBlocks};
@@ -44,7 +44,8 @@ pub(crate) fn ask_state<S: Store>(
     ensures held { All (FitsRange (seen (source_now state.now))) held.new }
     ensures store { OnlyReads S.bytes S.lent S.faults state.now.index store.old store.new result }
     ensures reads { ReadsWithin
-        (due (division state.now.index) (asked request.now) (note_plan request.now.query answers.old) (titles_asked (asked request.now) result))
+        (due (division state.now.index) (asked request.now) (note_plan request.now.query answers.old)
+        (filed_titles state.now.index.docs (asked request.now) result))
         (S.reads store.old) (S.reads store.new) }
     ensures bounded { range_bytes held.new ≤ most_held }
     ensures given { result ≡ Err fetches.Memory → held.new ≡ [] }

@@ -12,6 +12,7 @@ mod fault;
 mod live;
 mod numbers;
 mod rows;
+mod rows_by_word;
 mod settling;
 mod source;
 mod state;

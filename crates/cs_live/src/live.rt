@@ -3,7 +3,7 @@ ghost use Rattle.std.specs.Prelude.{◌≡◌, ◌↔◌, ℕ, ◌+◌, ◌≤�
 ghost use Rattle.std.specs.Option.{ForSome};
 ghost use Rattle.cs_base.specs.outside.Causes.{ReadsWithin};
 ghost use Rattle.cs_cache.specs.AnswerList.{answer_list};
-ghost use Rattle.cs_engine.specs.{Asking.{IsChangeIn, division, titles_asked}, HeldRanges.{range_bytes}};
+ghost use Rattle.cs_engine.specs.{Asking.{IsChangeIn, division, filed_titles}, HeldRanges.{range_bytes}};
 ghost use Rattle.cs_engine.specs.{Keeping.{KeepsAnswers, note_plan}, Sources.{seen}};
 ghost use Rattle.cs_file.specs.CallAnswers.{is_changed, is_read};
 ghost use Rattle.cs_file.specs.Indexes.{HasAllBlocks, StandsFor, CausedReads};
@@ -193,7 +193,8 @@ impl Live {
         ensures bytes { S.bytes store.new ≡ S.bytes store.old }
         ensures lent { S.lent store.new ≡ S.lent store.old }
         ensures reads { ReadsWithin
-            (due (division self.old.state.index) (asked request.now) (note_plan request.now.query self.old.answers) (titles_asked (asked request.now) result))
+            (due (division self.old.state.index) (asked request.now) (note_plan request.now.query self.old.answers)
+            (filed_titles self.old.state.index.docs (asked request.now) result))
             (S.reads store.old) (S.reads store.new) }
         ensures caused { CausedReads (is_read result) (S.faults store.old) (S.faults store.new) }
         ensures changed { IfErr result (IsChangeIn self.old.state.index (S.bytes store.old)) }

@@ -29,7 +29,8 @@ fn rank(shift: &[u32], n: u32) -> u32
     shift.partition_point(|m| is_less(*m, n)) as u32
 }
 
-fn is_less(m: u32, n: u32) -> bool
+/// Whether a number is below another.
+pub(crate) fn is_less(m: u32, n: u32) -> bool
     ensures { result ≡ nat_lt m n }
 {
     m < n

@@ -1,17 +1,17 @@
 //! Rows of added documents brought into a state: one vocabulary of all words, and one list of rows in memory.
-ghost use Rattle.std.specs.Prelude.{◌≡◌, ◌+◌, ◌≤◌, ◌<◌, ◌++◌, [], true, length, map, slice_index_or, IfOk, OnErr, OnOk};
-ghost use Rattle.std.specs.{List.{All}, List.Sorted.{IsStrictlySortedBy}, Vec.{vec_capacity, vec_len}};
+ghost use Rattle.std.specs.Prelude.{◌≡◌, ◌≤◌, ◌<◌, [], true, length, map, slice_index_or, IfOk, OnErr, OnOk};
+ghost use Rattle.std.specs.{List.{All}, List.Sorted.{IsStrictlySortedBy}};
 ghost use Rattle.cs_base.specs.content.Orders.{by_spot};
 ghost use Rattle.cs_base.specs.declared.content.limits.TheConstants.{MAX_ROWS, MAX_WORDS};
 ghost use Rattle.cs_merge.specs.Vocabularies.{AreOfWordSize};
 ghost use Rattle.cs_model.specs.Corpus.{distinct_words};
 ghost use Rattle.cs_vocab.specs.Ranges.{AreNumbers};
 ghost use Rattle.cs_live.specs.Lives.{AreWaiting, IsSettled, KeepsCorpus};
-ghost use Rattle.cs_live.specs.Settling.{AreMergedWith, AreSettled, HaveWordSize, row_posts, words_met};
-ghost use Rattle.cs_live.specs.States.{AreOwnNumbers, IsState, renumbered};
+ghost use Rattle.cs_live.specs.Settling.{AreMergedWith, AreSettled, HaveWordSize, words_met};
+ghost use Rattle.cs_live.specs.States.{IsState};
 
 use crate::numbers::has_own_words;
-use crate::rows::renumber_rows;
+use crate::rows_by_word::put_among;
 use crate::state::State;
 use cs_base::{Memory, Post, Row, Seq};
 use cs_merge::{Merging, merged};
@@ -102,13 +102,13 @@ fn are_later(rows: &[Row], doc: u32) -> bool
     doc < rows[0].doc
 }
 
-/// Words and numbers of the index's words, with those of rows brought in, and the rows behind those in memory. Where memory runs out, these
-/// stay as they are.
+/// Words and numbers of the index's words, with those of rows brought in, and the rows in memory with these. Where memory runs out, these stay
+/// as they are.
 pub(crate) fn brought_in(
     alloc: Global,
     words: &Vocab,
     shift: &[u32],
-    held: &mut Vec<Post>,
+    by_word: &mut Vec<Post>,
     rows: &[Row],
 ) -> Result<Settled, Memory>
     requires sized { AreOfWordSize words.now }
@@ -116,10 +116,10 @@ pub(crate) fn brought_in(
     requires few { length rows.now ≤ MAX_ROWS }
     requires few_words { length (words_met words.now rows.now) ≤ MAX_ROWS }
     requires shift { All (λ n. n < length words.now) shift.now }
-    requires held { All (λ p. p.word < length words.now) held.old.items }
+    requires by_word { All (λ p. p.word < length words.now) by_word.old.items }
 
-    ensures ok { IfOk result (λ m. AreSettled words.now shift.now held.old.items rows.now m held.new.items) }
-    ensures err { OnErr result (held.new.items ≡ held.old.items) }
+    ensures ok { IfOk result (λ m. AreSettled words.now shift.now by_word.old.items rows.now m by_word.new.items) }
+    ensures err { OnErr result (by_word.new.items ≡ by_word.old.items) }
 {
     let Numbered {
         words: own,
@@ -134,7 +134,15 @@ pub(crate) fn brought_in(
     let shift = numbers_by(alloc, first, shift)?;
     let words = Vocab::from_words(Seq::from_vec(both));
     let none = has_own_words(&words, first);
-    put_behind(held, none, first, &second, numbers.as_slice(), rows)?;
+    put_among(
+        alloc,
+        by_word,
+        none,
+        first,
+        &second,
+        numbers.as_slice(),
+        rows,
+    )?;
     Ok(Settled { words, shift })
 }
 
@@ -176,45 +184,4 @@ fn numbers_by(alloc: Global, first: &[u32], numbers: &[u32]) -> Result<Vec<u32>,
         moved.push(first[*n as usize])?;
     }
     Ok(moved)
-}
-
-// Gives rows in memory the numbers that their words have among more words, and adds rows behind them. Where memory runs out, nothing changes.
-fn put_behind(
-    held: &mut Vec<Post>,
-    own: bool,
-    first: &[u32],
-    second: &[u32],
-    numbers: &[u32],
-    rows: &[Row],
-) -> Result<(), Memory>
-    requires held { All (λ p. p.word < length first.now) held.old.items }
-    requires own { own ≡ true → AreOwnNumbers first.now }
-    requires even { length numbers.now ≡ length rows.now }
-    requires below { All (λ n. n < length second.now) numbers.now }
-
-    ensures ok { OnOk result (held.new.items ≡ map (renumbered first.now) held.old.items ++ row_posts second.now numbers.now rows.now) }
-    ensures err { OnErr result (held.new.items ≡ held.old.items) }
-{
-    held.reserve(rows.len())?;
-    renumber_rows(own, first, held);
-    add_posts(held, second, numbers, rows);
-    Ok(())
-}
-
-// Adds rows whose words have these numbers among those that are brought in, in the room that there is.
-fn add_posts(held: &mut Vec<Post>, second: &[u32], numbers: &[u32], rows: &[Row])
-    requires even { length numbers.now ≡ length rows.now }
-    requires below { All (λ n. n < length second.now) numbers.now }
-    requires room { vec_len held.old + length rows.now ≤ vec_capacity held.old }
-
-    ensures { held.new.items ≡ held.old.items ++ row_posts second.now numbers.now rows.now }
-{
-    for i in 0..rows.len() {
-        held.push_reserved(Post {
-            doc: rows[i].doc,
-            word: second[numbers[i] as usize],
-            pos: rows[i].pos,
-            score: rows[i].score,
-        });
-    }
 }

@@ -5,6 +5,7 @@ ghost use Rattle.cs_live.specs.States.{source_now};
 
 use crate::numbers::{old_words, own_span};
 use crate::rows::{fetch_now, fetch_scored_now};
+use crate::rows_by_word::rows_of_words;
 use crate::state::State;
 use crate::titles::title_now;
 use cs_base::{BlockHead, Memory, Post, Store, Text, Weights};
@@ -34,8 +35,8 @@ impl Source for State {
         self.present[doc as usize]
     }
 
-    fn held(&self) -> &[Post] {
-        &self.held
+    fn held(&self, words: (u32, u32)) -> &[Post] {
+        rows_of_words(&self.by_word, words)
     }
 
     fn range(&self, p: &[u8]) -> (u32, u32) {

@@ -25,13 +25,15 @@ pub struct State {
     pub(crate) present: Vec<bool>,
     /// Whether each document of the index is there.
     pub(crate) whole: bool,
-    /// The rows of the documents that were added and are there, in order.
-    pub(crate) held: Vec<Post>,
+    /// The rows of the documents that were added and are there, in the order of their words, those of a word in order of place.
+    pub(crate) by_word: Vec<Post>,
     /// The titles of the documents that were added, also of those that are gone.
     pub(crate) added: Seq<Text>,
 }
 
 impl Model for State {
+    ghost use Rattle.cs_base.specs.content.Members.{members_in};
+    ghost use Rattle.cs_engine.specs.IndexReading.{by_post};
     ghost use Rattle.cs_live.specs.States.{IsState, StateView};
 
     ghost Value = { StateView };
@@ -42,7 +44,8 @@ impl Model for State {
       shift = s.shift.items;
       present = s.present.items;
       whole = s.whole;
-      held = s.held.items;
+      held = members_in by_post s.by_word.items;
+      by_word = s.by_word.items;
       added = s.added;
     } };
 
@@ -52,7 +55,8 @@ impl Model for State {
       shift = s.shift.items;
       present = s.present.items;
       whole = s.whole;
-      held = s.held.items;
+      held = members_in by_post s.by_word.items;
+      by_word = s.by_word.items;
       added = s.added;
     }) };
 }
@@ -71,7 +75,7 @@ impl State {
             shift,
             present,
             whole: true,
-            held: Vec::new(alloc),
+            by_word: Vec::new(alloc),
             added: Seq::new(alloc),
         })
     }
@@ -102,7 +106,7 @@ impl State {
         let added = first <= doc;
         self.present[doc as usize] = false;
         self.whole = self.whole && added;
-        forget(&mut self.held, first, doc);
+        forget(&mut self.by_word, first, doc);
     }
 
     /// The rows that waited, with their words. Where memory runs out, nothing changes.
@@ -120,7 +124,7 @@ impl State {
             alloc,
             &self.words,
             &self.shift,
-            &mut self.held,
+            &mut self.by_word,
             rows,
         )?;
         self.words = words;
@@ -148,15 +152,15 @@ pub(crate) fn docs_of_index(index: &Index) -> u32
 }
 
 // Takes the rows of a document out of those of documents from a first one on. One before these has none.
-fn forget(held: &mut Vec<Post>, first: u32, doc: u32)
-    requires { All (λ p. first ≤ p.doc) held.old.items }
+fn forget(by_word: &mut Vec<Post>, first: u32, doc: u32)
+    requires { All (λ p. first ≤ p.doc) by_word.old.items }
 
-    ensures { held.new.items ≡ filter (λ p. not (p.doc == doc)) held.old.items }
+    ensures { by_word.new.items ≡ filter (λ p. not (p.doc == doc)) by_word.old.items }
 {
     if doc < first {
         return;
     }
-    held.retain(|post| post.doc != doc);
+    by_word.retain(|post| post.doc != doc);
 }
 
 /// How many rows an index has.

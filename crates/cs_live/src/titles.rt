@@ -1,5 +1,5 @@
 //! Titles of documents of the index and of added ones, and of those that are gone.
-ghost use Rattle.std.specs.Prelude.{◌≡◌, ◌<◌, ◌+◌, true, [], length, slice_index_or, IfOk};
+ghost use Rattle.std.specs.Prelude.{◌≡◌, ◌<◌, ◌+◌, true, [], length, nat_lt, slice_index_or, if◌then◌else◌, IfOk};
 ghost use Rattle.std.specs.{List.{All}, Str.{is_utf8}};
 ghost use Rattle.cs_base.specs.outside.Causes.{ReadsWithin};
 ghost use Rattle.cs_engine.specs.IndexReading.{OnlyReads};
@@ -26,7 +26,7 @@ pub(crate) fn title_now<S: Store>(
 
     ensures title { IfOk result (IsTitle index.now (S.bytes store.old) present.now added.now doc) }
     ensures store { OnlyReads S.bytes S.lent S.faults index.now store.old store.new result }
-    ensures reads { ReadsWithin 1 (S.reads store.old) (S.reads store.new) }
+    ensures reads { ReadsWithin (if nat_lt doc index.now.docs then 1 else 0) (S.reads store.old) (S.reads store.new) }
 {
     if !present[doc as usize] {
         return Ok(Text::new(alloc));

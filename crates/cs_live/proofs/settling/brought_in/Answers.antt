@@ -3,9 +3,10 @@ use Rattle.std.specs.Ordering.{nat_cmp}
 use Rattle.std.proofs.lemmas.List.Elements.{All-weaker}
 use Rattle.std.specs.Cmp.Lexicographic.{slice_cmp}
 use Rattle.cs_base.specs.content.Members.{members_in}
+use Rattle.cs_base.specs.content.Orders.{AreDocs}
 use Rattle.cs_merge.specs.Vocabularies.{AreOfWordSize}
 use Rattle.cs_live.specs.Settling.{row_posts}
-use Rattle.cs_live.specs.States.{AreOwnNumbers, renumbered}
+use Rattle.cs_live.specs.States.{AreByWord, AreOwnNumbers, renumbered}
 use Rattle.cs_live.proofs.NumberLemmas.{own_numbers}
 use Rattle.cs_live.proofs.SettledLemmas.{all_distinct, brought, met_distinct}
 use Rattle.cs_live.proofs.settling.brought_in.Goals as goal
@@ -21,25 +22,29 @@ from_words-words-requires-clause-few c =
     let few = c.requires.few_words in
     omega (arith, long, few)
 
-pub put_behind-requires-clause-held : goal.put_behind-requires-clause-held
-put_behind-requires-clause-held c =
+pub put_among-requires-clause-words : goal.put_among-requires-clause-words
+put_among-requires-clause-words c =
     let long = c.in_ok-both.ensures.first.long in
     let same = ap length c.deref-first.ensures.value in
-    All-weaker (λ p. p.word < length c.args.words.now) (λ p. p.word < length c.deref-first.result.now) (λ p lt. omega (arith, lt, long, same)) c.args.held.now.items c.requires.held
+    All-weaker (λ p. p.word < length c.args.words.now) (λ p. p.word < length c.deref-first.result.now) (λ p lt. omega (arith, lt, long, same)) c.args.by_word.now.items c.requires.by_word
 
-pub put_behind-requires-clause-own : goal.put_behind-requires-clause-own
-put_behind-requires-clause-own c e =
+pub put_among-requires-clause-own : goal.put_among-requires-clause-own
+put_among-requires-clause-own c e =
     let words = c.from_words-words.ensures ∙ c.from_vec.ensures in
     let merging = c.in_ok-both.field-0 in
     subst AreOwnNumbers (sym c.deref-first.ensures.value)
     (own_numbers c.args.words.now merging.words.items merging.first.items c.in_ok-both.ensures.first
     (ap length (sym words) ∙ c.has_own_words-none.ensures e ∙ ap length c.deref-first.ensures.value))
 
+pub put_among-requires-clause-rises : goal.put_among-requires-clause-rises
+put_among-requires-clause-rises c = subst AreDocs (sym c.deref-first.ensures.value) c.in_ok-both.ensures.first.rises
+
 pub returns-clause-ok : goal.returns-clause-ok
 returns-clause-ok c =
     let m = c.in_ok-both.field-0 in
-    brought c.args.words.now c.args.shift.now c.args.held.now.items c.args.rows.now c.in_ok-own.field-0.words c.in_ok-own.field-0.numbers m _ c.put_behind.new.held.items c.in_ok-both.ensures
+    brought c.args.words.now c.args.shift.now c.args.by_word.now.items c.args.rows.now c.in_ok-own.field-0.words c.in_ok-own.field-0.numbers m _ c.put_among.new.by_word.items c.in_ok-both.ensures
     c.in_ok-own.ensures.words c.in_ok-own.ensures.numbers (c.from_words-words.ensures ∙ c.from_vec.ensures)
     (c.in_ok-shift.ensures ∙ ap (λ first. map (λ n. get_or first n 0) c.args.shift.now) c.deref-first.ensures.value)
-    (c.in_ok-put_behind.ensures.ok ∙ ap₂ (λ ps qs. ps ++ qs) (ap (λ first. map (renumbered first) c.args.held.now.items) c.deref-first.ensures.value)
-    (ap₂ (λ second ns. row_posts second ns c.args.rows.now) c.deref.ensures.value c.as_slice.ensures))
+    (λ held is. subst (λ ps. AreByWord ps c.put_among.new.by_word.items)
+    (ap₂ (λ ps qs. ps ++ qs) (ap (λ first. map (renumbered first) held) c.deref-first.ensures.value)
+    (ap₂ (λ second ns. row_posts second ns c.args.rows.now) c.deref.ensures.value c.as_slice.ensures)) (c.in_ok-put_among.ensures.ok held is))
