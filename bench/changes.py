@@ -4,8 +4,9 @@
     bench/changes.py PROGRAM COLLECTION [RUNS]
 
 It builds the index of COLLECTION, types some words of its titles letter by letter, and has PROGRAM answer them as `replay` and as `live`:
-with nothing changed, and behind 1,000 documents of 100 words added and 1,000 deleted. Then it adds documents behind others. Each figure is
-the least of RUNS differences (5 where it is left out) of processor time between a script and the same one without what is measured.
+with nothing changed, and behind 1,000 documents of 100 words added, or 1,000 deleted, or both. The first keystroke behind additions brings
+their rows in, and is measured by itself. Then it adds documents behind others. Each figure is a difference of processor time between a
+script and the same one without what is measured, each the least of RUNS runs (5 where it is left out).
 """
 import pathlib
 import random
@@ -15,7 +16,7 @@ import subprocess
 import sys
 import tempfile
 
-WORDS, CHANGES, MANY, TYPED = 100, 1_000, 100_000, 60
+WORDS, CHANGES, MANY, TYPED = 100, 1_000, 100_000, 200
 
 
 def processor_time(words):
@@ -64,10 +65,13 @@ def main():
                 taken.append(min(processor_time([program, command, folder / "index", folder / name]) for _ in range(runs)))
             return 1_000 * (taken[0] - taken[1])
 
-        alone = least("replay", keys, []) / len(keys)
+        first = keys[:1]
+        alone = least("replay", first + keys, first) / len(keys)
         print(f"a keystroke: {alone:.3f} ms")
-        print(f"the same in `live`, nothing changed: {least('live', keys, []) / len(keys) / alone:.2f} times")
-        print(f"behind {CHANGES} additions and {len(gone)} deletions: {least('live', changed + keys, changed) / len(keys) / alone:.2f} times")
+        print(f"the same in `live`, nothing changed: {least('live', first + keys, first) / len(keys) / alone:.2f} times")
+        for name, before in (("additions", some[:CHANGES]), ("deletions", gone), ("additions and deletions", changed)):
+            times = least("live", before + first + keys, before + first) / len(keys) / alone
+            print(f"behind {CHANGES} {name}: {times:.2f} times, and the first one {least('live', before + first, before):.0f} ms more")
         print(f"an addition behind {CHANGES}: {least('live', some, some[:CHANGES]) / CHANGES:.3f} ms")
         print(f"an addition behind {MANY}: {least('live', many, many[:MANY]) / 10 / CHANGES:.3f} ms")
         print(f"a deletion behind {CHANGES} additions: {least('live', changed, some[:CHANGES]) / len(gone):.3f} ms")
