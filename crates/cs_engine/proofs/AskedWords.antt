@@ -114,7 +114,7 @@ one_met lo hi (h ∷ hs) apart l =
       | false ↦ λ e. one_met lo hi hs (λ k m d up n. apart (suc k) (suc m) d (omega (arith, up)) (omega (arith, n))) l
     ] refl
 
-empty_met : (lo hi : ℕ) (hs : List BlockHead) → lo ≡ hi → length (filter (is_met lo hi) hs) ≤ 0
+pub empty_met : (lo hi : ℕ) (hs : List BlockHead) → lo ≡ hi → length (filter (is_met lo hi) hs) ≤ 0
 empty_met lo hi [] e = omega arith
 empty_met lo hi (h ∷ hs) same =
     elim (is_met lo hi h) as (λ e. is_met lo hi h ≡ e → length (cond e (h ∷ filter (is_met lo hi) hs) (filter (is_met lo hi) hs)) ≤ 0) [

@@ -3,7 +3,7 @@
 --   in_hits, in_kept       posts in hits stand for the rows in hits
 --   words_inside           so they do for an atom
 --   sharp_met              how many blocks that hits reach hold the words that pass a test
---   prefix_sharp, exact_sharp, chain_sharp, part_sharp       those of a part of one chain
+--   prefix_sharp, exact_sharp, chain_sharp       those of a chain of one atom
 --   join_sharp             a join is read as without hits
 --   facet_sharp            those of a facet
 --   hits_less, last_hits_less, facets_hit_less       they are no more than those that are met
@@ -157,16 +157,6 @@ pub chain_sharp : (v : SourceView) (c : Chain) (o : Option (ℕ × ℕ))
     → IfSome o (λ w. AreSharp v (λ b. hit_of_chain (division v.index) b c) w.0 w.1)
 chain_sharp v c None h = h
 chain_sharp v c (Some w) h = λ b. (let l = h b in omega (arith, l))
-
-pub part_sharp : (v : SourceView) (p : Part) (c : Chain) (chains : List Chain) → chains ≡ (out-Part p).chains → chains ≡ c ∷ [] → (o : Option (ℕ × ℕ))
-    → IfSome o (λ w. AreSharp v (λ b. hit_of_chain (division v.index) b c) w.0 w.1)
-    → IfSome o (λ w. AreSharp v (λ b. hit_of_part (division v.index) b p) w.0 w.1)
-part_sharp v p c chains are one None h = h
-part_sharp v p c chains are one (Some w) h = λ b.
-    let own : hit_of_part (division v.index) b p ≡ 0 + hit_of_chain (division v.index) b c =
-    ap (λ cs. sum (map (hit_of_chain (division v.index) b) cs)) (sym are ∙ one) in
-    let l = h b in
-    omega (arith, l, own)
 
 -- ---- level by level
 module _ (d : Division) where

@@ -47,3 +47,4 @@ pub mod InsideLemmas
 pub mod ExtendingLemmas
 pub mod BoundedBlocks
 pub mod SharpReads
+pub mod JoinedWords

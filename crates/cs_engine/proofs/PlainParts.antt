@@ -4,11 +4,10 @@
 --   prefix_words, exact_words      those of an atom
 --   words_told        what is read of the words from one number up to another
 --   facet_reads, join_reads     how much is read for the words of a facet, and for those of a join
---   part_words        those of a part of one chain
 --   listed_entry, listed_fits      the entry of one part more, by the rows in listed documents
-use Rattle.std.proofs.Common.{◌≡◌, ℕ, ◌+◌, ◌-◌, ◌*◌, ◌<◌, ◌≤◌, ◌==◌, Bool, true, false, List, [], ◌∷◌, length, map, get_or, Option, None, Some, refl, sym}
+use Rattle.std.proofs.Common.{◌≡◌, ℕ, ◌+◌, ◌-◌, ◌*◌, ◌<◌, ◌≤◌, ◌==◌, Bool, true, false, List, [], length, get_or, refl, sym}
 use Rattle.std.proofs.Common.{ap, subst, ◌∙◌, arith}
-use Rattle.std.specs.Prelude.{All, IfOk, IfSome, Result, filter, sum}
+use Rattle.std.specs.Prelude.{All, IfOk, Result, filter}
 use Rattle.std.proofs.lemmas.Result.{IfOk-weaker}
 use Rattle.std.specs.List.{list_any}
 use Rattle.std.specs.Str.{bytes_eq}
@@ -18,19 +17,16 @@ use Rattle.cs_base.specs.declared.content.doc.Post.{Post}
 use Rattle.cs_base.specs.declared.content.doc.Row.{Row}
 use Rattle.cs_base.specs.declared.content.query.Atom.{Atom}
 use Rattle.cs_base.specs.declared.content.query.Atom.TheVariants.{Prefix, Exact, Join}
-use Rattle.cs_base.specs.declared.content.query.Chain.{Chain}
-use Rattle.cs_base.specs.declared.content.query.Part.{Part, out-Part}
 use Rattle.cs_base.specs.declared.content.query.Query.{Query}
 use Rattle.cs_base.specs.outside.Causes.{ReadsWithin}
 use Rattle.cs_base.proofs.ListsLemmas.{any_through}
 use Rattle.cs_base.specs.declared.content.scores.TheConstants.{MAX_ROW_SCORE}
 use Rattle.cs_file.specs.Indexes.{IndexView, StandsFor}
 use Rattle.cs_model.specs.Answers.{begins, rows_of_atom}
-use Rattle.cs_model.specs.Answers.{rows_of_chain, rows_of_part}
 use Rattle.cs_model.proofs.AnswersLemmas.{prefix_rows, exact_rows}
 use Rattle.cs_model.specs.Collection.{named}
 use Rattle.cs_model.specs.Corpus.{Corpus}
-use Rattle.cs_model_kept.specs.Due.{met_of_atom, met_of_chain, met_of_part, met_of_query, met_prefix}
+use Rattle.cs_model_kept.specs.Due.{met_of_atom, met_of_query, met_prefix}
 use Rattle.cs_model_kept.proofs.DueLemmas.{met_exact_atom, met_prefix_atom}
 use Rattle.cs_model_index.specs.Numbered.{rows_at}
 use Rattle.cs_vocab.specs.Ranges.{IsRange}
@@ -42,8 +38,7 @@ use Rattle.cs_engine.specs.Keeping.{entry_with}
 use Rattle.cs_engine.specs.Steps.{EntryFits, IsBaseOf, is_in_base}
 use Rattle.cs_engine.specs.Sources.{IsSource, SourceView, met_in}
 use Rattle.cs_engine.specs.Stocked.{HoldsBetween, corpus_in, is_between, base_posts}
-use Rattle.cs_engine.proofs.AlternativesLemmas.{lists_begin, lists_end, lists_go_on, ordered_itself}
-use Rattle.cs_engine.proofs.EvaluationLemmas.{joined_reads, met_part-is}
+use Rattle.cs_engine.proofs.EvaluationLemmas.{joined_reads}
 use Rattle.cs_engine.proofs.OverSources.{listed_asked}
 use Rattle.cs_engine.proofs.WalkLemmas.{within_more}
 use Rattle.cs_engine.proofs.AtomsLemmas.{picked_between, span_rows, words_known}
@@ -110,33 +105,6 @@ module _ (v : SourceView) (is : IsSource v) {a : Atom} {name : List ℕ} {inner 
   pub join_reads : a ≡ Join name inner → IsRange v.words (named name []) lo hi → ReadsWithin (met_of_query (division v.index) inner) before mid
       → ReadsWithin (met_in v lo hi) mid now → ReadsWithin (met_of_atom (division v.index) a) before now
   join_reads joins range query facet = joined_reads (division v.index) joins query (within_more facet (is.prefix_met (named name []) lo hi range))
-
--- ---- chains and parts
-pub one_chain : (chains : List Chain) (c : Chain) → length chains ≡ 1 → c ≡ get_or chains 0 c → chains ≡ c ∷ []
-one_chain [] c one at = absurd (omega (arith, one))
-one_chain (d ∷ []) c one at = ap (λ x. x ∷ []) (sym at)
-one_chain (d ∷ e ∷ chains) c one at = absurd (omega (arith, one))
-
-pub part_words : (v : SourceView) → IsSource v → (p : Part) (c : Chain) (chains : List Chain) → chains ≡ (out-Part p).chains → chains ≡ c ∷ []
-    → (o : Option (ℕ × ℕ)) → IfSome o (λ w. AreWordsOf v (met_of_chain (division v.index) c) (λ k. rows_of_chain k c) w.0 w.1)
-    → IfSome o (λ w. AreWordsOf v (met_of_part (division v.index) p) (λ k. (rows_of_part k p).rows) w.0 w.1)
-part_words v is p c chains are one None h = h
-part_words v is p c chains are one (Some w) h =
-    let d = division v.index in
-    let own : (out-Part p).chains ≡ c ∷ [] = sym are ∙ one in
-    let met : met_of_part d p ≡ 0 + met_of_chain d c = met_part-is d p ∙ ap (λ cs. sum (map (met_of_chain d) cs)) own in
-    record {
-      ordered = h.ordered;
-      within = h.within;
-      few = (let l = h.few in omega (arith, l, met));
-      posts = λ b stands.
-          let s = v.stock b in
-          let has = h.posts b stands in
-          let posts = filter (is_between w.0 w.1) s.posts in
-          lists_end s (c ∷ []) (is.told b stands).stocked p (sym own) 1 posts posts (omega arith)
-          (lists_go_on s (c ∷ []) 0 c (omega arith) refl [] posts posts (lists_begin s (c ∷ []) [] refl) has refl)
-          (ordered_itself posts has.picked.sorted);
-    }
 
 -- ---- the entry
 module _ (v : SourceView) (hits : Base) (listed : List Bool) (has : AreListed v.present hits listed) where

@@ -89,7 +89,7 @@ impl Engine {
             → IsAfter b request.now.query self.old result self.new) }
         ensures unchanged { ForSome (S.bytes store.old) (λ b. StandsFor b self.old.index → is_changed result ≡ false) }
 
-        // And no block of the last part that none of the hits before it reaches is read, nor one of a facet that no hit reaches.
+        // And no block of a facet that no hit reaches is read, nor, where a kept answer is extended, one of the last part that no hit of it reaches.
         ensures sharp { ForSome (S.bytes store.old) (λ b. StandsFor b self.old.index → AreGood b self.old
             → ReadsWithin (sharp (division self.old.index) (file_corpus b) (asked request.now) (note_plan request.now.query self.old.answers)
             (titles_asked (asked request.now) result)) (S.reads store.old) (S.reads store.new)) }

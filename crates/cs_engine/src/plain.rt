@@ -1,16 +1,16 @@
-//! Parts that ask for the words from one number up to another: those of one chain of one atom that is no join.
-ghost use Rattle.std.specs.Prelude.{◌≡◌, false, IfSome};
+//! Parts that ask for the words from one number up to another: those of chains of one atom each, none a join, with no word between theirs.
+ghost use Rattle.std.specs.Prelude.{◌≡◌, true, false, IfSome};
 ghost use Rattle.cs_base.specs.declared.content.query.Part.{out-Part};
 ghost use Rattle.cs_model.specs.Answers.{rows_of_atom, rows_of_chain, rows_of_part};
 ghost use Rattle.cs_model_kept.specs.Due.{met_of_atom, met_of_chain, met_of_part};
-ghost use Rattle.cs_engine.specs.{Asking.{division}, Plain.{AreSharp, AreWordsOf}, Skipping.{hit_of_atom, hit_of_chain, hit_of_part}};
+ghost use Rattle.cs_engine.specs.{Asking.{division}, Plain.{AreJoined, AreSharp, AreWordsOf, IsInside}, Skipping.{hit_of_atom, hit_of_chain, hit_of_part}};
 ghost use Rattle.cs_engine.specs.Sources.{IsSource};
 
 use crate::source::Source;
 use cs_base::{Atom, Chain, Part};
 
-/// The words that a part asks for, where it is positive and has one chain of one atom that is no join: from one number up to
-/// another, which is left out.
+/// The words that a part asks for, where it is positive and each of its chains is one atom that is no join, and where no word lies between
+/// those of its chains: from one number up to another, which is left out.
 pub(crate) fn words_of_part<I: Source>(index: &I, part: &Part) -> Option<(u32, u32)>
     requires index { IsSource (I.view index.now) }
 
@@ -22,10 +22,37 @@ pub(crate) fn words_of_part<I: Source>(index: &I, part: &Part) -> Option<(u32, u
     if part.excluded {
         return None;
     }
-    match part.chains.as_slice() {
-        [chain] => words_of_chain(index, chain),
-        _ => None,
+    let mut words = (0, 0);
+    for chain in part.chains.as_slice() {
+        let more = words_of_chain(index, chain)?;
+        words = joined(words, more)?;
     }
+    Some(words)
+}
+
+// Two ranges of words as one, where one is inside the other or ends where the other begins.
+fn joined(words: (u32, u32), more: (u32, u32)) -> Option<(u32, u32)>
+    ensures { IfSome result (AreJoined words more) }
+{
+    if is_inside(more, words) {
+        return Some(words);
+    }
+    if is_inside(words, more) {
+        return Some(more);
+    }
+    if words.1 == more.0 {
+        return Some((words.0, more.1));
+    }
+    if more.1 == words.0 {
+        return Some((more.0, words.1));
+    }
+    None
+}
+
+fn is_inside(words: (u32, u32), others: (u32, u32)) -> bool
+    ensures { result ≡ true → IsInside words others }
+{
+    words.0 == words.1 || (others.0 <= words.0 && words.1 <= others.1)
 }
 
 fn words_of_chain<I: Source>(index: &I, chain: &Chain) -> Option<(u32, u32)>
