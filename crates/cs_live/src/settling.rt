@@ -9,18 +9,23 @@ ghost use Rattle.cs_vocab.specs.Ranges.{AreNumbers};
 ghost use Rattle.cs_live.specs.Lives.{AreWaiting, IsSettled, KeepsCorpus};
 ghost use Rattle.cs_live.specs.Settling.{AreMergedWith, AreSettled, HaveWordSize, words_met};
 ghost use Rattle.cs_live.specs.States.{IsState};
+ghost use Rattle.cs_live.specs.declared.settling.TheConstants.{MOST_WAITING};
 
 use crate::numbers::has_own_words;
 use crate::rows_by_word::put_among;
 use crate::state::State;
-use cs_base::{Memory, Post, Row, Seq};
+use cs_base::{MAX_WORDS, Memory, Post, Row, Seq};
 use cs_merge::{Merging, merged};
 use cs_vocab::{Gathering, Numbered, Vocab};
 use std::alloc::Global;
 
-/// How many rows of added documents may wait behind an addition. So many are few beside the words that there may be: whether those of a
-/// document have room is seen by their number, but where the words are nearly too many.
+/// How many rows of added documents may wait behind an addition, whatever a state has. So many are few beside the words that there may be:
+/// whether those of a document have room is seen by their number, but where the words are nearly too many.
 const MOST_WAITING: usize = 65_536;
+
+/// Of the rows in memory one in so many may wait, where that is more. So all that are put among them make each be moved this many times, on
+/// average and at most, however many they become.
+const WAITING_SHARE: usize = 32;
 
 /// What a state has in place of its own, where rows were brought in.
 #[derive(Drop)]
@@ -52,7 +57,7 @@ pub(crate) fn bring_in(alloc: Global, state: &mut State, rows: &mut Vec<Row>) ->
     Ok(())
 }
 
-/// Brings rows that wait into a state where they are more than `MOST_WAITING`. Where memory runs out, they wait on.
+/// Brings rows that wait into a state where they are too many to wait on. Where memory runs out, they wait on.
 pub(crate) fn bring_many_in(alloc: Global, state: &mut State, rows: &mut Vec<Row>)
     requires is { IsState state.old }
     requires waiting { AreWaiting state.old rows.old.items }
@@ -61,10 +66,22 @@ pub(crate) fn bring_many_in(alloc: Global, state: &mut State, rows: &mut Vec<Row
 
     ensures { KeepsCorpus state.old rows.old.items state.new rows.new.items }
 {
-    if rows.len() <= MOST_WAITING {
+    if may_wait(state, rows.len()) {
         return;
     }
     let _ = bring_in(alloc, state, rows);
+}
+
+// Whether so many rows may wait: where they are few, or where they are few beside those in memory and words have room for them and some more.
+fn may_wait(state: &State, rows: usize) -> bool
+    ensures { rows ≤ MOST_WAITING → result ≡ true }
+{
+    if rows <= MOST_WAITING {
+        return true;
+    }
+    let words = state.words.len() as usize;
+    rows <= state.by_word.len() / WAITING_SHARE
+        && rows <= MAX_WORDS.saturating_sub(words + MOST_WAITING)
 }
 
 /// Brings rows that wait into a state where those of a document may be among them. Where memory runs out, nothing changes.

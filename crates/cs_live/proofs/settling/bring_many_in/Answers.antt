@@ -1,8 +1,8 @@
 use Rattle.cs_live.proofs.SettledLemmas.{same_keeps, tried_keeps}
 use Rattle.cs_live.proofs.settling.bring_many_in.Goals as goal
 
-pub returns-then-len-le-MOST_WAITING : goal.returns-then-len-le-MOST_WAITING
-returns-then-len-le-MOST_WAITING c = same_keeps c.args.state.now c.requires.is c.args.rows.now.items c.requires.waiting
+pub returns-then-may_wait : goal.returns-then-may_wait
+returns-then-may_wait c = same_keeps c.args.state.now c.requires.is c.args.rows.now.items c.requires.waiting
 
 pub returns : goal.returns
 returns c =
