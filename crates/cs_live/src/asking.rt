@@ -3,7 +3,7 @@ ghost use Rattle.std.specs.Prelude.{◌≡◌, ◌≤◌, Err, [], length, IfOk}
 ghost use Rattle.std.specs.List.{All};
 ghost use Rattle.cs_base.specs.outside.Causes.{ReadsWithin};
 ghost use Rattle.cs_engine.specs.{Asking.{division, filed_titles}, HeldRanges.{FitsRange, range_bytes}, IndexReading.{OnlyReads, WhereStood}};
-ghost use Rattle.cs_engine.specs.{Sources.{seen}, Stocked.{corpus_in}};
+ghost use Rattle.cs_engine.specs.{Skipping.{hit_reads}, Sources.{seen}, Stocked.{corpus_in}};
 ghost use Rattle.cs_engine.specs.Keeping.{AnswersRight, AreGoodFor, KeepsAnswers, KeepsFitting, engine_with, note_plan};
 ghost use Rattle.cs_file.specs.Indexes.{HasAllBlocks};
 ghost use Rattle.cs_file.specs.declared.fault.FetchFault.TheVariants as fetches;
@@ -47,6 +47,10 @@ pub(crate) fn ask_state<S: Store>(
         (due (division state.now.index) (asked request.now) (note_plan request.now.query answers.old)
         (filed_titles state.now.index.docs (asked request.now) result))
         (S.reads store.old) (S.reads store.new) }
+    ensures sharp { WhereStood (S.bytes store.old) state.now.index
+        (λ b. (let s = stock_now state.now b in AreGoodFor (corpus_in s) s (engine_with (seen (source_now state.now)) answers.old held.old)
+        → ReadsWithin (hit_reads (division state.now.index) (corpus_in s) (asked request.now) (note_plan request.now.query answers.old)
+        (filed_titles state.now.index.docs (asked request.now) result)) (S.reads store.old) (S.reads store.new))) }
     ensures bounded { range_bytes held.new ≤ most_held }
     ensures given { result ≡ Err fetches.Memory → held.new ≡ [] }
 {

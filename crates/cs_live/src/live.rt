@@ -4,7 +4,7 @@ ghost use Rattle.std.specs.Option.{ForSome};
 ghost use Rattle.cs_base.specs.outside.Causes.{ReadsWithin};
 ghost use Rattle.cs_cache.specs.AnswerList.{answer_list};
 ghost use Rattle.cs_engine.specs.{Asking.{IsChangeIn, division, filed_titles}, HeldRanges.{range_bytes}};
-ghost use Rattle.cs_engine.specs.{Keeping.{KeepsAnswers, note_plan}, Sources.{seen}};
+ghost use Rattle.cs_engine.specs.{Keeping.{KeepsAnswers, note_plan}, Skipping.{hit_reads}, Sources.{seen}};
 ghost use Rattle.cs_file.specs.CallAnswers.{is_changed, is_read};
 ghost use Rattle.cs_file.specs.Indexes.{HasAllBlocks, StandsFor, CausedReads};
 ghost use Rattle.cs_file.specs.declared.fault.FetchFault.TheVariants as fetches;
@@ -183,6 +183,11 @@ impl Live {
         ensures after { ForSome (S.bytes store.old) (λ b. StandsFor b self.old.state.index → AreGoodNow b self.old → (cs : List Change) → IsBehind b cs self.old
             → IsAfterNow (now self.old.state.index.weights (file_corpus b) cs) request.now.query self.old result self.new) }
         ensures behind { (b : List ℕ) (cs : List Change) → StandsFor b self.old.state.index → IsBehind b cs self.old → IsBehind b cs self.new }
+
+        // And no block of a facet that no hit reaches is read, nor, where a kept answer is extended, one of the last part that no hit of it reaches.
+        ensures sharp { ForSome (S.bytes store.old) (λ b. StandsFor b self.old.state.index → AreGoodNow b self.old → (cs : List Change) → IsBehind b cs self.old
+            → ReadsWithin (hit_reads (division self.old.state.index) (now self.old.state.index.weights (file_corpus b) cs) (asked request.now)
+            (note_plan request.now.query self.old.answers) (filed_titles self.old.state.index.docs (asked request.now) result)) (S.reads store.old) (S.reads store.new)) }
         ensures changes { changes_in self.new ≡ changes_in self.old }
         ensures unchanged { ForSome (S.bytes store.old) (λ b. StandsFor b self.old.state.index → is_changed result ≡ false) }
 
