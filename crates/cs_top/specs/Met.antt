@@ -12,6 +12,9 @@
 use Rattle.std.specs.Prelude.{◌≡◌, ℕ, List, Option, Some}
 use Rattle.std.specs.Option.{ForSome}
 use Rattle.std.specs.FinMap as map
+use Rattle.cs_base.specs.declared.outside.files.Files.{Ghosts as FilesGhosts}
+use Rattle.cs_base.specs.declared.outside.hub.Hub.{Ghosts as HubGhosts}
+use Rattle.cs_base.specs.declared.outside.sink.Sink.{Ghosts as SinkGhosts}
 use Rattle.cs_base.specs.outside.Hub.{Listening, Talk}
 use Rattle.cs_base.specs.outside.Outside.{Held, bytes_of, size_of}
 
@@ -23,8 +26,8 @@ pub record Wrote : Type 0 where
   pub now : ℕ
 
 -- the same of a sink, from what it was to what it is
-abbrev pub wrote : {O : Type 0} → (O → Option (List ℕ)) → (O → ℕ) → O → O → Wrote
-wrote written faults old new = record { old = written old; new = written new; before = faults old; now = faults new }
+abbrev pub wrote : {O : Type 0} → SinkGhosts O → O → O → Wrote
+wrote sink old new = record { old = sink.written old; new = sink.written new; before = sink.faults old; now = sink.faults new }
 
 -- what a hub tells, its talk maybe not, its count of failures of `listen` and `next`, and that of failures of `send`
 pub record HubSeen : Type 0 where
@@ -34,8 +37,8 @@ pub record HubSeen : Type 0 where
   pub send_faults : ℕ
 
 -- the same of a hub as it is
-abbrev pub hub_seen : {H : Type 0} → (H → Listening) → (H → Option Talk) → (H → ℕ) → (H → ℕ) → H → HubSeen
-hub_seen state talk faults send_faults hub = record { state = state hub; talk = talk hub; faults = faults hub; send_faults = send_faults hub }
+abbrev pub hub_seen : {H : Type 0} → HubGhosts H → H → HubSeen
+hub_seen tells hub = record { state = tells.state hub; talk = tells.talk hub; faults = tells.faults hub; send_faults = tells.send_faults hub }
 
 -- the same before and after
 pub record Listened : Type 0 where
@@ -43,8 +46,8 @@ pub record Listened : Type 0 where
   pub new : HubSeen
 
 -- the same of a hub, from what it was to what it is
-abbrev pub listened : {H : Type 0} → (H → Listening) → (H → Option Talk) → (H → ℕ) → (H → ℕ) → H → H → Listened
-listened state talk faults send_faults old new = record { old = hub_seen state talk faults send_faults old; new = hub_seen state talk faults send_faults new }
+abbrev pub listened : {H : Type 0} → HubGhosts H → H → H → Listened
+listened tells old new = record { old = hub_seen tells old; new = hub_seen tells new }
 
 -- what a run meets; a hub is seen whole, whatever it tells
 pub record Met (H : Type 0) : Type 0 where
@@ -57,17 +60,17 @@ pub record Met (H : Type 0) : Type 0 where
   pub hub : H
   pub hub_now : H
 
--- what files, out and hub tell of themselves, from what they were to what they are
-abbrev pub met : {F O H : Type 0} → (F → Option Held) → (F → ℕ) → (O → Option (List ℕ)) → (O → ℕ) → (H → Listening) → (H → Option Talk) → (H → ℕ) → (H → ℕ) → F → F → O → O → H → H → Met H
-met held files_faults written out_faults state talk hub_faults send_faults files_old files_new out_old out_new hub_old hub_new = record {
-  held = held files_old;
-  held_now = held files_new;
-  files_before = files_faults files_old;
-  files_now = files_faults files_new;
-  out = wrote written out_faults out_old out_new;
-  net = listened state talk hub_faults send_faults hub_old hub_new;
-  hub = hub_old;
-  hub_now = hub_new;
+-- what files, hub and out tell of themselves, from what they were to what they are
+abbrev pub met : {F H O : Type 0} → FilesGhosts F → HubGhosts H → SinkGhosts O → F × H × O → F × H × O → Met H
+met files hub sink old new = record {
+  held = files.held old.0;
+  held_now = files.held new.0;
+  files_before = files.faults old.0;
+  files_now = files.faults new.0;
+  out = wrote sink old.2 new.2;
+  net = listened hub old.1 new.1;
+  hub = old.1;
+  hub_now = new.1;
 }
 
 -- files, out and hub are as they were, and none of them failed

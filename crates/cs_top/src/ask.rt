@@ -33,8 +33,8 @@ pub(crate) fn ask<'a, F: Files, O: Sink>(
     files: &mut F,
     out: &mut O,
 ) -> Result<(), RunStop<'a>>
-    ensures ends { AskEnds form (ended result) collection.now script.now (wrote O.written O.faults out.old out.new) }
-    ensures told { ForSome (F.held files.old) (λ h. AskTold form (ended result) h collection.now script.now (wrote O.written O.faults out.old out.new)) }
+    ensures ends { AskEnds form (ended result) collection.now script.now (wrote O.Sink out.old out.new) }
+    ensures told { ForSome (F.held files.old) (λ h. AskTold form (ended result) h collection.now script.now (wrote O.Sink out.old out.new)) }
     ensures caused { Caused (ended result) (F.faults files.old) (F.faults files.new) (O.faults out.old) (O.faults out.new) }
     ensures files { F.held files.new ≡ F.held files.old }
 {
@@ -92,9 +92,9 @@ fn answer_over<'a, F: Files, O: Sink>(
     requires file { HasFile image }
     requires size { IsSized (F.held files.old) script }
 
-    ensures ends { (c s : List ℕ) → AskEnds (form_by showing.now) (ended result) c s (wrote O.written O.faults out.old out.new) }
+    ensures ends { (c s : List ℕ) → AskEnds (form_by showing.now) (ended result) c s (wrote O.Sink out.old out.new) }
     ensures told { ForSome (F.held files.old) (λ h. (c : List ℕ) → IsAskedOver h c script.entry.name.now showing.now image
-        → AskTold (form_by showing.now) (ended result) h c script.entry.name.now (wrote O.written O.faults out.old out.new)) }
+        → AskTold (form_by showing.now) (ended result) h c script.entry.name.now (wrote O.Sink out.old out.new)) }
     ensures caused { Caused (ended result) (F.faults files.old) (F.faults files.new) (O.faults out.old) (O.faults out.new) }
     ensures files { F.held files.new ≡ F.held files.old }
 {

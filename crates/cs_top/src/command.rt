@@ -35,12 +35,12 @@ pub fn run<F: Files, H: Hub, O: Sink, E: Sink>(
     err: &mut E,
 ) -> u8
     ensures ran { (e : Ending) × (result ≡ status e)
-        × Ran e (command_of (map string_bytes words.now.items)) (met F.held F.faults O.written O.faults H.state H.talk H.faults H.send_faults files.old files.new out.old out.new hub.old hub.new)
-        × SaysLine (wrote E.written E.faults err.old err.new) (line_of e) }
+        × Ran e (command_of (map string_bytes words.now.items)) (met F.Files H.Hub O.Sink (files.old, hub.old, out.old) (files.new, hub.new, out.new))
+        × SaysLine (wrote E.Sink err.old err.new) (line_of e) }
 
     // Where all can be done and no count rose, it is, or memory ran out.
     ensures complete { Completes (command_of (map string_bytes words.now.items))
-        (met F.held F.faults O.written O.faults H.state H.talk H.faults H.send_faults files.old files.new out.old out.new hub.old hub.new) result }
+        (met F.Files H.Hub O.Sink (files.old, hub.old, out.old) (files.new, hub.new, out.new)) result }
 {
     let ended = carry_out(alloc, words, files, hub, out);
     tell(err, ended);
@@ -55,7 +55,7 @@ fn carry_out<'a, F: Files, H: Hub, O: Sink>(
     out: &mut O,
 ) -> Result<(), RunStop<'a>>
     ensures ran { Ran (ended result) (command_of (map string_bytes words.now.items))
-        (met F.held F.faults O.written O.faults H.state H.talk H.faults H.send_faults files.old files.new out.old out.new hub.old hub.new) }
+        (met F.Files H.Hub O.Sink (files.old, hub.old, out.old) (files.new, hub.new, out.new)) }
 {
     match command_of(words) {
         None => Err(RunStop::Usage),

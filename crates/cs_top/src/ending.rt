@@ -124,7 +124,7 @@ pub(crate) fn status_of(run: Result<(), RunStop<'_>>) -> u8
 
 /// Says how a run ended. A failure of standard error changes nothing else.
 pub(crate) fn tell<E: Sink>(err: &mut E, run: Result<(), RunStop<'_>>)
-    ensures { SaysLine (wrote E.written E.faults err.old err.new) (line_of (ended run.entry)) }
+    ensures { SaysLine (wrote E.Sink err.old err.new) (line_of (ended run.entry)) }
 {
     if let Err(stop) = run {
         let _ = put_said(err, stop.said());

@@ -23,8 +23,8 @@ pub(crate) fn replay<'a, F: Files, O: Sink>(
     files: &mut F,
     out: &mut O,
 ) -> Result<(), RunStop<'a>>
-    ensures ends { ReplayEnds (ended result) index.now script.now (wrote O.written O.faults out.old out.new) }
-    ensures told { ForSome (F.held files.old) (λ h. ReplayTold (ended result) h index.now script.now (F.faults files.old) (F.faults files.new) (wrote O.written O.faults out.old out.new)) }
+    ensures ends { ReplayEnds (ended result) index.now script.now (wrote O.Sink out.old out.new) }
+    ensures told { ForSome (F.held files.old) (λ h. ReplayTold (ended result) h index.now script.now (F.faults files.old) (F.faults files.new) (wrote O.Sink out.old out.new)) }
     ensures caused { ReplayCaused (ended result) (F.faults files.old) (F.faults files.new) (O.faults out.old) (O.faults out.new) }
     ensures files { F.held files.new ≡ F.held files.old }
 {

@@ -37,8 +37,8 @@ pub(crate) fn serve_index<'a, F: Files, H: Hub, O: Sink>(
     requires port { is_number MAX_PORT_DIGITS MAX_PORT port.now ≡ true }
     requires conns { is_number MAX_CONNECTIONS_DIGITS MAX_CONNECTIONS conns.now ≡ true }
 
-    ensures ends { ServeEnds (ended result) index.now port.now conns.now (wrote O.written O.faults out.old out.new) (listened H.state H.talk H.faults H.send_faults hub.old hub.new) }
-    ensures told { ForSome (F.held files.old) (λ h. ServeTold (ended result) h index.now port.now conns.now (F.faults files.old) (F.faults files.new) (wrote O.written O.faults out.old out.new) (listened H.state H.talk H.faults H.send_faults hub.old hub.new)) }
+    ensures ends { ServeEnds (ended result) index.now port.now conns.now (wrote O.Sink out.old out.new) (listened H.Hub hub.old hub.new) }
+    ensures told { ForSome (F.held files.old) (λ h. ServeTold (ended result) h index.now port.now conns.now (F.faults files.old) (F.faults files.new) (wrote O.Sink out.old out.new) (listened H.Hub hub.old hub.new)) }
     ensures caused { ServeCaused (ended result) (F.faults files.old) (F.faults files.new) (O.faults out.old) (O.faults out.new) (H.faults hub.old) (H.faults hub.new) }
     ensures files { F.held files.new ≡ F.held files.old }
 {
@@ -77,12 +77,12 @@ fn begin<H: Hub, O: Sink>(hub: &mut H, out: &mut O, port: &str, conns: &str) -> 
     requires port { is_number MAX_PORT_DIGITS MAX_PORT port.now ≡ true }
     requires conns { is_number MAX_CONNECTIONS_DIGITS MAX_CONNECTIONS conns.now ≡ true }
 
-    ensures put { OnOk result (HasToldPort port.now (wrote O.written O.faults out.old out.new)) }
-    ensures listening { OnOk result (IsListening port.now conns.now (listened H.state H.talk H.faults H.send_faults hub.old hub.new)) }
+    ensures put { OnOk result (HasToldPort port.now (wrote O.Sink out.old out.new)) }
+    ensures listening { OnOk result (IsListening port.now conns.now (listened H.Hub hub.old hub.new)) }
     ensures orderly { OnOk result (IsOrderly (H.state hub.new) (H.talk hub.new)) }
     ensures quiet { OnOk result (H.faults hub.new ≡ H.faults hub.old) }
     ensures hub_later { H.faults hub.old ≤ H.faults hub.new }
-    ensures stopped { OnErr result (HasStopped port.now conns.now (wrote O.written O.faults out.old out.new) (listened H.state H.talk H.faults H.send_faults hub.old hub.new)) }
+    ensures stopped { OnErr result (HasStopped port.now conns.now (wrote O.Sink out.old out.new) (listened H.Hub hub.old hub.new)) }
     ensures caused { OnErr result (Rose (O.faults out.old) (O.faults out.new) ⊎ Rose (H.faults hub.old) (H.faults hub.new)) }
     ensures later { O.faults out.old ≤ O.faults out.new }
 {
@@ -91,7 +91,7 @@ fn begin<H: Hub, O: Sink>(hub: &mut H, out: &mut O, port: &str, conns: &str) -> 
 }
 
 fn put_line<O: Sink>(out: &mut O, port: &str) -> Result<(), Failed>
-    ensures ok { OnOk result (HasToldPort port.now (wrote O.written O.faults out.old out.new)) }
+    ensures ok { OnOk result (HasToldPort port.now (wrote O.Sink out.old out.new)) }
     ensures err { OnErr result (GrewByPrefix (O.written out.old) (serving_line port.now) (O.written out.new)) }
     ensures failed { OnErr result (Rose (O.faults out.old) (O.faults out.new)) }
     ensures later { O.faults out.old ≤ O.faults out.new }

@@ -27,7 +27,7 @@ pub(crate) fn trial<'a, O: Sink>(
 ) -> Result<(), RunStop<'a>>
     requires { is_number MAX_TRIAL_DIGITS MAX_TRIAL number.now ≡ true }
 
-    ensures ends { TrialEnds (ended result) number.now (wrote O.written O.faults out.old out.new) }
+    ensures ends { TrialEnds (ended result) number.now (wrote O.Sink out.old out.new) }
     ensures caused { CausedBy (ended result) (O.faults out.old) (O.faults out.new) }
 {
     let summary = summary_of(alloc, trial_of(number))?;

@@ -52,10 +52,10 @@ pub(super) fn answer_line<F: Files, O: Sink>(
     ensures ok { (b : List ℕ) (s : LiveState) → LiveOver live.old index.entry.name.now (F.held files.old) b s → IfOk result (λ came. (e : LiveState)
         × LivePasses b s (number, line.now) (O.written out.old) (O.written out.new) came (F.faults files.old) (F.faults files.new) e × LiveOver live.new index.entry.name.now (F.held files.new) b e) }
     ensures err { (b : List ℕ) (s : LiveState) → LiveOver live.old index.entry.name.now (F.held files.old) b s → IfErr result (λ z. StopsAt (LineText b s) (stop_ending (of_script z)) (number, line.now)
-        (wrote O.written O.faults out.old out.new) (F.faults files.old) (F.faults files.new)) }
+        (wrote O.Sink out.old out.new) (F.faults files.old) (F.faults files.new)) }
     ensures came { IfOk result (λ came. CameCounts came (F.faults files.old) (F.faults files.new)) }
     ensures puts { IfOk result (λ came. PutsLineOf IsLiveText came (O.written out.old) (O.written out.new)) }
-    ensures cuts { IfErr result (λ s. CutsLineOf IsLiveText (stop_ending (of_script s)) (wrote O.written O.faults out.old out.new)) }
+    ensures cuts { IfErr result (λ s. CutsLineOf IsLiveText (stop_ending (of_script s)) (wrote O.Sink out.old out.new)) }
     ensures stays { StaysIndex live.old live.new (F.held files.old) (F.held files.new) }
     ensures later { F.faults files.old ≤ F.faults files.new }
     ensures quiet { OnOk result (O.faults out.new ≡ O.faults out.old) }

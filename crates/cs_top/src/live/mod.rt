@@ -42,8 +42,8 @@ pub(crate) fn live_script<'a, F: Files, O: Sink>(
     files: &mut F,
     out: &mut O,
 ) -> Result<(), RunStop<'a>>
-    ensures ends { LiveEnds (ended result) index.now script.now (wrote O.written O.faults out.old out.new) }
-    ensures told { ForSome (F.held files.old) (λ h. LiveTold (ended result) h index.now script.now (F.faults files.old) (F.faults files.new) (wrote O.written O.faults out.old out.new)) }
+    ensures ends { LiveEnds (ended result) index.now script.now (wrote O.Sink out.old out.new) }
+    ensures told { ForSome (F.held files.old) (λ h. LiveTold (ended result) h index.now script.now (F.faults files.old) (F.faults files.new) (wrote O.Sink out.old out.new)) }
     ensures caused { ReplayCaused (ended result) (F.faults files.old) (F.faults files.new) (O.faults out.old) (O.faults out.new) }
     ensures files { F.held files.new ≡ F.held files.old }
 {
@@ -97,13 +97,13 @@ fn answer_lines<F: Files, O: Sink>(
     requires fits { HasAllBlocks (file_bytes (F.held files.old) index.name.now) live.old.state.index }
 
     ensures whole { (b : List ℕ) → LiveOver live.old index.entry.name.now (F.held files.old) b (before_changes (file_corpus b)) → OfFile (F.held files.old) script.entry (λ x. IfOk result (λ came. (ts : List (List ℕ))
-        × ScriptEndsBy (IsToldCourse b) done (script_lines x) ts (wrote O.written O.faults out.old out.new) × Tally came (F.faults files.old) (F.faults files.new) ts)) }
+        × ScriptEndsBy (IsToldCourse b) done (script_lines x) ts (wrote O.Sink out.old out.new) × Tally came (F.faults files.old) (F.faults files.new) ts)) }
     ensures short { (b : List ℕ) → LiveOver live.old index.entry.name.now (F.held files.old) b (before_changes (file_corpus b)) → OfFile (F.held files.old) script.entry (λ x. IfErr result (λ s. (ts : List (List ℕ))
-        × ScriptEndsBy (IsToldCourse b) (stop_ending (of_script s)) (script_lines x) ts (wrote O.written O.faults out.old out.new)
-        × ShortTally (stop_ending (of_script s)) (wrote O.written O.faults out.old out.new) (F.faults files.old) (F.faults files.new) ts)) }
+        × ScriptEndsBy (IsToldCourse b) (stop_ending (of_script s)) (script_lines x) ts (wrote O.Sink out.old out.new)
+        × ShortTally (stop_ending (of_script s)) (wrote O.Sink out.old out.new) (F.faults files.old) (F.faults files.new) ts)) }
     ensures came { IfOk result (λ came. CameCounts came (F.faults files.old) (F.faults files.new)) }
     ensures puts { IfOk result (λ came. PutsTextsOf IsLiveText came (O.written out.old) (O.written out.new)) }
-    ensures cuts { IfErr result (λ s. EndsOf IsLiveText (stop_ending (of_script s)) (wrote O.written O.faults out.old out.new)) }
+    ensures cuts { IfErr result (λ s. EndsOf IsLiveText (stop_ending (of_script s)) (wrote O.Sink out.old out.new)) }
     ensures quiet { OnOk result (O.faults out.new ≡ O.faults out.old) }
     ensures caused { IfErr result (λ s. ScriptCaused (stop_ending (of_script s)) false (F.faults files.old) (F.faults files.new) (O.faults out.old) (O.faults out.new)) }
     ensures files { F.held files.new ≡ F.held files.old }
@@ -139,10 +139,10 @@ fn answer_next<F: Files, O: Sink>(
     ensures ok { (b : List ℕ) (s : LiveState) → LiveOver live.old index.entry.name.now (F.held files.old) b s → OfFile (F.held files.old) script.entry (λ x. IfOk result (λ p. (e : LiveState)
         × LiveReaches b s x place p.0 (O.written out.old) (O.written out.new) p.1 (F.faults files.old) (F.faults files.new) e × LiveOver live.new index.entry.name.now (F.held files.new) b e)) }
     ensures err { (b : List ℕ) (s : LiveState) → LiveOver live.old index.entry.name.now (F.held files.old) b s → OfFile (F.held files.old) script.entry (λ x. IfErr result (λ z. EndsAt (LineText b s)
-        (stop_ending (of_script z)) x place (wrote O.written O.faults out.old out.new) (F.faults files.old) (F.faults files.new))) }
+        (stop_ending (of_script z)) x place (wrote O.Sink out.old out.new) (F.faults files.old) (F.faults files.new))) }
     ensures came { IfOk result (λ p. CameCounts p.1 (F.faults files.old) (F.faults files.new)) }
     ensures puts { IfOk result (λ p. PutsLineOf IsLiveText p.1 (O.written out.old) (O.written out.new)) }
-    ensures cuts { IfErr result (λ s. CutsLineOf IsLiveText (stop_ending (of_script s)) (wrote O.written O.faults out.old out.new)) }
+    ensures cuts { IfErr result (λ s. CutsLineOf IsLiveText (stop_ending (of_script s)) (wrote O.Sink out.old out.new)) }
     ensures further { IfOk result (λ p. (place.at < p.0.at) × (p.0.at ≤ script.entry.size) × (p.0.number ≤ p.0.at)) }
     ensures stays { StaysIndex live.old live.new (F.held files.old) (F.held files.new) }
     ensures quiet { OnOk result (O.faults out.new ≡ O.faults out.old) }

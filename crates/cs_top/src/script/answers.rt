@@ -60,10 +60,10 @@ pub(crate) fn answer_line<F: Files, O: Sink>(
 
     ensures ok { (k : Corpus) → AnswersOver engine.old file.old (F.held files.old) k → IfOk result (λ came. Passes (MayAnswer showing.now file.old k) (number, line.now) (O.written out.old) (O.written out.new) came (F.faults files.old) (F.faults files.new)) }
     ensures err { (k : Corpus) → AnswersOver engine.old file.old (F.held files.old) k → IfErr result (λ s. StopsAt (MayAnswer showing.now file.old k) (stop_ending (of_script s)) (number, line.now)
-        (wrote O.written O.faults out.old out.new) (F.faults files.old) (F.faults files.new)) }
+        (wrote O.Sink out.old out.new) (F.faults files.old) (F.faults files.new)) }
     ensures came { IfOk result (λ came. CameOver engine.old file.old (F.held files.old) came (F.faults files.old) (F.faults files.new)) }
     ensures puts { IfOk result (λ came. PutsLine (form_by showing.now) came (O.written out.old) (O.written out.new)) }
-    ensures cuts { IfErr result (λ s. CutsLine (form_by showing.now) (stop_ending (of_script s)) (wrote O.written O.faults out.old out.new)) }
+    ensures cuts { IfErr result (λ s. CutsLine (form_by showing.now) (stop_ending (of_script s)) (wrote O.Sink out.old out.new)) }
     ensures over { StaysOver engine.old engine.new file.old file.new (F.held files.old) (F.held files.new) }
     ensures later { F.faults files.old ≤ F.faults files.new }
     ensures made { is_some file.old.made ≡ true → F.faults files.new ≡ F.faults files.old }

@@ -58,13 +58,13 @@ pub(crate) fn answer_script<F: Files, O: Sink>(
     requires there { IsThere engine.old.index file.old (F.held files.old) }
 
     ensures whole { (k : Corpus) → AnswersOver engine.old file.old (F.held files.old) k → OfFile (F.held files.old) script.entry (λ b. IfOk result (λ came. (ts : List (List ℕ))
-        × ScriptEnds (MayAnswer showing.now file.old k) done (script_lines b) ts (wrote O.written O.faults out.old out.new) × Tally came (F.faults files.old) (F.faults files.new) ts)) }
+        × ScriptEnds (MayAnswer showing.now file.old k) done (script_lines b) ts (wrote O.Sink out.old out.new) × Tally came (F.faults files.old) (F.faults files.new) ts)) }
     ensures short { (k : Corpus) → AnswersOver engine.old file.old (F.held files.old) k → OfFile (F.held files.old) script.entry (λ b. IfErr result (λ s. (ts : List (List ℕ))
-        × ScriptEnds (MayAnswer showing.now file.old k) (stop_ending (of_script s)) (script_lines b) ts (wrote O.written O.faults out.old out.new)
-        × ShortTally (stop_ending (of_script s)) (wrote O.written O.faults out.old out.new) (F.faults files.old) (F.faults files.new) ts)) }
+        × ScriptEnds (MayAnswer showing.now file.old k) (stop_ending (of_script s)) (script_lines b) ts (wrote O.Sink out.old out.new)
+        × ShortTally (stop_ending (of_script s)) (wrote O.Sink out.old out.new) (F.faults files.old) (F.faults files.new) ts)) }
     ensures came { IfOk result (λ came. CameOver engine.old file.old (F.held files.old) came (F.faults files.old) (F.faults files.new)) }
     ensures puts { IfOk result (λ came. PutsTexts (form_by showing.now) came (O.written out.old) (O.written out.new)) }
-    ensures cuts { IfErr result (λ s. EndsBy (form_by showing.now) (stop_ending (of_script s)) (wrote O.written O.faults out.old out.new)) }
+    ensures cuts { IfErr result (λ s. EndsBy (form_by showing.now) (stop_ending (of_script s)) (wrote O.Sink out.old out.new)) }
     ensures quiet { OnOk result (O.faults out.new ≡ O.faults out.old) }
     ensures caused { IfErr result (λ s. ScriptCaused (stop_ending (of_script s)) (is_some file.old.made) (F.faults files.old) (F.faults files.new) (O.faults out.old) (O.faults out.new)) }
     ensures files { F.held files.new ≡ F.held files.old }
@@ -99,10 +99,10 @@ fn answer_next<F: Files, O: Sink>(
     ensures ok { (k : Corpus) → AnswersOver engine.old file.old (F.held files.old) k → OfFile (F.held files.old) script.entry (λ b. IfOk result (λ p. Reaches (MayAnswer showing.now file.old k) b
         place p.0 (O.written out.old) (O.written out.new) p.1 (F.faults files.old) (F.faults files.new))) }
     ensures err { (k : Corpus) → AnswersOver engine.old file.old (F.held files.old) k → OfFile (F.held files.old) script.entry (λ b. IfErr result (λ s. EndsAt (MayAnswer showing.now file.old k)
-        (stop_ending (of_script s)) b place (wrote O.written O.faults out.old out.new) (F.faults files.old) (F.faults files.new))) }
+        (stop_ending (of_script s)) b place (wrote O.Sink out.old out.new) (F.faults files.old) (F.faults files.new))) }
     ensures came { IfOk result (λ p. CameOver engine.old file.old (F.held files.old) p.1 (F.faults files.old) (F.faults files.new)) }
     ensures puts { IfOk result (λ p. PutsLine (form_by showing.now) p.1 (O.written out.old) (O.written out.new)) }
-    ensures cuts { IfErr result (λ s. CutsLine (form_by showing.now) (stop_ending (of_script s)) (wrote O.written O.faults out.old out.new)) }
+    ensures cuts { IfErr result (λ s. CutsLine (form_by showing.now) (stop_ending (of_script s)) (wrote O.Sink out.old out.new)) }
     ensures further { IfOk result (λ p. (place.at < p.0.at) × (p.0.at ≤ script.entry.size) × (p.0.number ≤ p.0.at)) }
     ensures over { StaysOver engine.old engine.new file.old file.new (F.held files.old) (F.held files.new) }
     ensures quiet { OnOk result (O.faults out.new ≡ O.faults out.old) }

@@ -24,7 +24,7 @@ use Rattle.cs_top.proofs.ask.answer_over.Goals.{After-answer_script}
 
 -- what was put
 abbrev w : (g : given.Over) → After-answer_script g → Wrote
-w g c = wrote g.O.Sink.written g.O.Sink.faults c.args.out.now c.answer_script.new.out
+w g c = wrote g.O.Sink c.args.out.now c.answer_script.new.out
 
 -- the collection of which this is the image, and its corpus
 abbrev Over : (g : given.Over) → After-answer_script g → Held → List ℕ → Type 0
@@ -84,7 +84,7 @@ unreachable-requires-in-Ok-Changed g c =
 
 pub returns-in_err-engine-clause-told : goal.returns-in_err-engine-clause-told
 returns-in_err-engine-clause-told g c h held name is =
-    let w = wrote g.O.Sink.written g.O.Sink.faults c.args.out.now c.args.out.now in
+    let w = wrote g.O.Sink c.args.out.now c.args.out.now in
     let memory : ended c.from_residual.result ≡ no_memory = search rules in
     subst (λ (e : Ending). AskTold (form_by c.args.showing.now) e h name c.args.script.name.now w) (sym memory) (inl (is.ready.0, refl))
 
@@ -114,7 +114,7 @@ returns-clause-told g c h held name is =
 -- ---- over any files
 pub returns-in_err-engine-clause-ends : goal.returns-in_err-engine-clause-ends
 returns-in_err-engine-clause-ends g c name s =
-    let w = wrote g.O.Sink.written g.O.Sink.faults c.args.out.now c.args.out.now in
+    let w = wrote g.O.Sink c.args.out.now c.args.out.now in
     let memory : ended c.from_residual.result ≡ no_memory = search rules in
     subst (λ (e : Ending). AskEnds (form_by c.args.showing.now) e name s w) (sym memory) refl
 

@@ -14,14 +14,14 @@ use Rattle.cs_top.proofs.ask.ask.Goals as goal
 pub returns-in-Titled-clause-ends : goal.returns-in-Titled-clause-ends
 returns-in-Titled-clause-ends g c =
     let e = ended c.answer_over.result in
-    let w = wrote g.O.Sink.written g.O.Sink.faults c.args.out.now c.answer_over.new.out in
+    let w = wrote g.O.Sink c.args.out.now c.answer_over.new.out in
     subst (λ (f : HitForm). AskEnds f e c.args.collection.now c.args.script.now w) (sym c.in-Titled.is)
     (subst (λ (docs : AtHand). AskEnds (form_by docs) e c.args.collection.now c.args.script.now w) c.titled-showing.ensures (c.answer_over.ensures.ends c.args.collection.now c.args.script.now))
 
 pub returns-clause-ends : goal.returns-clause-ends
 returns-clause-ends g c =
     let e = ended c.answer_over-in-Excerpted.result in
-    let w = wrote g.O.Sink.written g.O.Sink.faults c.args.out.now c.answer_over-in-Excerpted.new.out in
+    let w = wrote g.O.Sink c.args.out.now c.answer_over-in-Excerpted.new.out in
     subst (λ (f : HitForm). AskEnds f e c.args.collection.now c.args.script.now w) (sym c.in-Excerpted.is)
     (subst (λ (docs : AtHand). AskEnds (form_by docs) e c.args.collection.now c.args.script.now w) c.excerpted-showing.ensures (c.answer_over-in-Excerpted.ensures.ends c.args.collection.now c.args.script.now))
 
@@ -30,7 +30,7 @@ pub returns-in-Titled-clause-told : goal.returns-in-Titled-clause-told
 returns-in-Titled-clause-told g c h held =
     let b = held_bytes h c.args.collection.now in
     let e = ended c.answer_over.result in
-    let w = wrote g.O.Sink.written g.O.Sink.faults c.args.out.now c.answer_over.new.out in
+    let w = wrote g.O.Sink c.args.out.now c.answer_over.new.out in
     let still : g.F.Files.held c.prepare.new.files ≡ Some h = c.in_ok-bytes.ensures.reads.files ∙ held in
     let is : c.in_ok-bytes.bytes.items ≡ b = c.in_ok-bytes.ensures.bytes h held in
     let over : IsAskedOver h c.args.collection.now c.args.script.now c.titled-showing.result c.in_ok-bytes.image = record {
@@ -45,7 +45,7 @@ pub returns-clause-told : goal.returns-clause-told
 returns-clause-told g c h held =
     let b = held_bytes h c.args.collection.now in
     let e = ended c.answer_over-in-Excerpted.result in
-    let w = wrote g.O.Sink.written g.O.Sink.faults c.args.out.now c.answer_over-in-Excerpted.new.out in
+    let w = wrote g.O.Sink c.args.out.now c.answer_over-in-Excerpted.new.out in
     let still : g.F.Files.held c.prepare.new.files ≡ Some h = c.in_ok-bytes.ensures.reads.files ∙ held in
     let is : c.in_ok-bytes.bytes.items ≡ b = c.in_ok-bytes.ensures.bytes h held in
     let docs : map doc_of_lent c.deref-in-Excerpted.result.now ≡ documents b = ap (map doc_of_lent) c.deref-in-Excerpted.ensures.value ∙ c.in_ok-documents-in-Excerpted.ensures.ok ∙ ap documents (c.deref.ensures.value ∙ is) in

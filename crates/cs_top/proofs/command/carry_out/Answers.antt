@@ -21,7 +21,7 @@ serve_index-requires-clause-conns g c =
 pub returns-in-Some-Serve : goal.returns-in-Some-Serve
 returns-in-Some-Serve g c =
     let s = c.in-Some-Serve in
-    let m = met g.F.Files.held g.F.Files.faults g.O.Sink.written g.O.Sink.faults g.H.Hub.state g.H.Hub.talk g.H.Hub.faults g.H.Hub.send_faults c.args.files.now c.serve_index.new.files c.args.out.now c.serve_index.new.out c.args.hub.now c.serve_index.new.hub in
+    let m = met g.F.Files g.H.Hub g.O.Sink (c.args.files.now, c.args.hub.now, c.args.out.now) (c.serve_index.new.files, c.serve_index.new.hub, c.serve_index.new.out) in
     let e : Some (serve s.index.now s.port.now s.conns.now) ≡ command_of (map string_bytes c.args.words.now.items) =
     ap (λ x. Some (seen_command x)) (sym s.field-0-is) ∙ s.ensures.seen ∙ ap (λ l. command_of (map string_bytes l)) c.deref.ensures.value in
     record { ran = subst (λ x. Ran (ended c.serve_index.result) x m) e (ran_by s.index.now s.port.now s.conns.now m (ended c.serve_index.result) c.serve_index.ensures.ends c.serve_index.ensures.told c.serve_index.ensures.caused c.serve_index.ensures.files) }

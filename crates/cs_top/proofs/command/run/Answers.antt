@@ -11,5 +11,5 @@ use Rattle.cs_top.proofs.command.run.Goals as goal
 pub returns-clause-complete : goal.returns-clause-complete
 returns-clause-complete g c =
     let words = command_of (map string_bytes c.args.words.now.items) in
-    let m = met g.F.Files.held g.F.Files.faults g.O.Sink.written g.O.Sink.faults g.H.Hub.state g.H.Hub.talk g.H.Hub.faults g.H.Hub.send_faults c.args.files.now c.carry_out-ended.new.files c.args.out.now c.carry_out-ended.new.out c.args.hub.now c.carry_out-ended.new.hub in
+    let m = met g.F.Files g.H.Hub g.O.Sink (c.args.files.now, c.args.hub.now, c.args.out.now) (c.carry_out-ended.new.files, c.carry_out-ended.new.hub, c.carry_out-ended.new.out) in
     subst (λ (n : ℕ). Completes words m n) (sym c.status_of.ensures) (completes (ended c.carry_out-ended.result) words m c.carry_out-ended.ensures.ran)

@@ -32,14 +32,14 @@ returns-in_err-at-clause-short g c b over h held =
     let n = g.O.Sink.faults c.args.out.now in
     let fb = g.F.Files.faults c.args.files.now in
     let fn = g.F.Files.faults c.first_place.new.files in
-    let all : (ts : List (List ℕ)) × ScriptEndsBy (IsToldCourse b) failed ls ts (wrote g.O.Sink.written g.O.Sink.faults c.args.out.now c.args.out.now)
-    × ShortTally failed (wrote g.O.Sink.written g.O.Sink.faults c.args.out.now c.args.out.now) fb fn ts =
+    let all : (ts : List (List ℕ)) × ScriptEndsBy (IsToldCourse b) failed ls ts (wrote g.O.Sink c.args.out.now c.args.out.now)
+    × ShortTally failed (wrote g.O.Sink c.args.out.now c.args.out.now) fb fn ts =
     live_unread b ls w n n fb fn c.in_err-at.ensures.counted.failed in
     search rules
 
 pub returns-in_err-at-clause-cuts : goal.returns-in_err-at-clause-cuts
 returns-in_err-at-clause-cuts g c =
-    let all : EndsOf IsLiveText failed (wrote g.O.Sink.written g.O.Sink.faults c.args.out.now c.args.out.now) = nothing_put_of IsLiveText (wrote g.O.Sink.written g.O.Sink.faults c.args.out.now c.args.out.now) refl in
+    let all : EndsOf IsLiveText failed (wrote g.O.Sink c.args.out.now c.args.out.now) = nothing_put_of IsLiveText (wrote g.O.Sink c.args.out.now c.args.out.now) refl in
     search rules
 
 pub loop-place-init : goal.loop-place-init
@@ -70,8 +70,8 @@ returns-in_err-next-clause-short g c b over h held =
     let there = c.in_err-next.ensures.err b had.0 had.2 h (inv.stays.files ∙ held) in
     let here : EndsAt (LineText b had.0) e x c.loop-place.place (record { old = g.O.Sink.written c.loop-place.out; new = new; before = first; now = last }) (g.F.Files.faults c.loop-place.files) n =
     subst (λ m. EndsAt (LineText b had.0) e x c.loop-place.place (record { old = g.O.Sink.written c.loop-place.out; new = new; before = m; now = last }) (g.F.Files.faults c.loop-place.files) n) inv.out there in
-    let all : (ts : List (List ℕ)) × ScriptEndsBy (IsToldCourse b) e (script_lines x) ts (wrote g.O.Sink.written g.O.Sink.faults c.args.out.now c.answer_next.new.out)
-    × ShortTally e (wrote g.O.Sink.written g.O.Sink.faults c.args.out.now c.answer_next.new.out) (g.F.Files.faults c.args.files.now) n ts =
+    let all : (ts : List (List ℕ)) × ScriptEndsBy (IsToldCourse b) e (script_lines x) ts (wrote g.O.Sink c.args.out.now c.answer_next.new.out)
+    × ShortTally e (wrote g.O.Sink c.args.out.now c.answer_next.new.out) (g.F.Files.faults c.args.files.now) n ts =
     live_ends_here b had.0 x c.loop-place.place had.1 first last e new n here in
     search rules
 
@@ -84,7 +84,7 @@ returns-in_err-next-clause-cuts g c =
     let last = g.O.Sink.faults c.answer_next.new.out in
     let here : CutsLineOf IsLiveText e (record { old = g.O.Sink.written c.loop-place.out; new = new; before = first; now = last }) =
     subst (λ m. CutsLineOf IsLiveText e (record { old = g.O.Sink.written c.loop-place.out; new = new; before = m; now = last })) inv.out c.in_err-next.ensures.cuts in
-    let all : EndsOf IsLiveText e (wrote g.O.Sink.written g.O.Sink.faults c.args.out.now c.answer_next.new.out) =
+    let all : EndsOf IsLiveText e (wrote g.O.Sink c.args.out.now c.answer_next.new.out) =
     puts_cut_of IsLiveText live_apart c.loop-place.came (g.O.Sink.written c.args.out.now) (g.O.Sink.written c.loop-place.out) first last new e inv.puts here in
     search rules
 

@@ -32,7 +32,7 @@ abbrev ls : (g : given.Over) → After-answer_lines g → Held → List (ℕ × 
 ls g c h = script_lines (held_bytes h c.args.script.now)
 
 abbrev w : (g : given.Over) → After-answer_lines g → Wrote
-w g c = wrote g.O.Sink.written g.O.Sink.faults c.args.out.now c.answer_lines.new.out
+w g c = wrote g.O.Sink c.args.out.now c.answer_lines.new.out
 
 -- both files were opened, no read of them failed, and the index is as it is before the first change
 record IsOpen (g : given.Over) (c : After-answer_lines g) (h : Held) : Type 0 where
@@ -56,7 +56,7 @@ is_open g c h held =
 
 -- before the script nothing is put
 abbrev unput : (g : given.Over) → g.row.O.Denot → Wrote
-unput g out = wrote g.O.Sink.written g.O.Sink.faults out out
+unput g out = wrote g.O.Sink out out
 
 pub returns-in_err-size-clause-told : goal.returns-in_err-size-clause-told
 returns-in_err-size-clause-told g c h held =

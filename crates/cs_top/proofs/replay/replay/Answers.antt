@@ -31,7 +31,7 @@ abbrev ls : (g : given.Over) → After-answer_script g → Held → List (ℕ ×
 ls g c h = script_lines (held_bytes h c.args.script.now)
 
 abbrev w : (g : given.Over) → After-answer_script g → Wrote
-w g c = wrote g.O.Sink.written g.O.Sink.faults c.args.out.now c.answer_script.new.out
+w g c = wrote g.O.Sink c.args.out.now c.answer_script.new.out
 
 -- both files were opened, no read of them failed, and the engine answers over the index file
 record IsOpen (g : given.Over) (c : After-answer_script g) (h : Held) : Type 0 where
@@ -121,7 +121,7 @@ put_by g c x y is same =
 
 -- before the script nothing is put
 abbrev unput : (g : given.Over) → g.row.O.Denot → Wrote
-unput g out = wrote g.O.Sink.written g.O.Sink.faults out out
+unput g out = wrote g.O.Sink out out
 
 pub returns-in_err-size-clause-ends : goal.returns-in_err-size-clause-ends
 returns-in_err-size-clause-ends g c =

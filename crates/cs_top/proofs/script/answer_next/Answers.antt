@@ -12,7 +12,7 @@ returns-in_err-came-clause-err g c k over h held =
     let a = MayAnswer c.args.showing.now c.args.file.now k in
     let b = held_bytes h c.args.script.name.now in
     let e = stop_ending (of_script c.in_err-came.field-0.0) in
-    let w = wrote g.O.Sink.written g.O.Sink.faults c.args.out.now c.answer_line.new.out in
+    let w = wrote g.O.Sink c.args.out.now c.answer_line.new.out in
     let fb = g.F.Files.faults c.args.files.now in
     let fn = g.F.Files.faults c.answer_line.new.files in
     let here = over_at c.args.engine.now c.args.file.now _ _ c.in_ok-len.ensures.same k over in
@@ -26,7 +26,7 @@ returns-clause-ok g c k over h held =
     let here = over_at c.args.engine.now c.args.file.now _ _ c.in_ok-len.ensures.same k over in
     subst (λ n. Reaches (MayAnswer c.args.showing.now c.args.file.now k) (held_bytes h c.args.script.name.now) c.args.place (record { at = c.in_ok-len.at; number = c.args.place.number + 1 }) (g.O.Sink.written c.args.out.now) (g.O.Sink.written c.answer_line.new.out) c.in_ok-came.came n (g.F.Files.faults c.answer_line.new.files))
     c.in_ok-len.ensures.counted.quiet
-    (reaches_by (MayAnswer c.args.showing.now c.args.file.now k) (held_bytes h c.args.script.name.now) _ c.args.place c.in_ok-len.at (wrote g.O.Sink.written g.O.Sink.faults c.args.out.now c.answer_line.new.out) _ (g.F.Files.faults c.answer_line.new.files)
+    (reaches_by (MayAnswer c.args.showing.now c.args.file.now k) (held_bytes h c.args.script.name.now) _ c.args.place c.in_ok-len.at (wrote g.O.Sink c.args.out.now c.answer_line.new.out) _ (g.F.Files.faults c.answer_line.new.files)
     (record { at = c.in_ok-len.at; number = c.args.place.number + 1 }) (g.O.Sink.written c.args.out.now) (g.O.Sink.written c.answer_line.new.out) c.in_ok-came.came (c.in_ok-len.ensures.line h held) refl (c.in_ok-came.ensures.ok k here))
 
 pub returns-clause-came : goal.returns-clause-came

@@ -26,14 +26,14 @@ returns-in_err-at-clause-short g c k over h held =
     let n = g.O.Sink.faults c.args.out.now in
     let fb = g.F.Files.faults c.args.files.now in
     let fn = g.F.Files.faults c.first_place.new.files in
-    let all : (ts : List (List ℕ)) × ScriptEnds a failed ls ts (wrote g.O.Sink.written g.O.Sink.faults c.args.out.now c.args.out.now)
-    × ShortTally failed (wrote g.O.Sink.written g.O.Sink.faults c.args.out.now c.args.out.now) fb fn ts =
+    let all : (ts : List (List ℕ)) × ScriptEnds a failed ls ts (wrote g.O.Sink c.args.out.now c.args.out.now)
+    × ShortTally failed (wrote g.O.Sink c.args.out.now c.args.out.now) fb fn ts =
     unread (at_start (OneEach a) ls ls w fb fb tt refl refl) n n w fn refl c.in_err-at.ensures.counted.failed in
     search rules
 
 pub returns-in_err-at-clause-cuts : goal.returns-in_err-at-clause-cuts
 returns-in_err-at-clause-cuts g c =
-    let all : EndsBy (form_by c.args.showing.now) failed (wrote g.O.Sink.written g.O.Sink.faults c.args.out.now c.args.out.now) = nothing_put (form_by c.args.showing.now) (wrote g.O.Sink.written g.O.Sink.faults c.args.out.now c.args.out.now) refl in
+    let all : EndsBy (form_by c.args.showing.now) failed (wrote g.O.Sink c.args.out.now c.args.out.now) = nothing_put (form_by c.args.showing.now) (wrote g.O.Sink c.args.out.now c.args.out.now) refl in
     search rules
 
 pub loop-place-init : goal.loop-place-init
@@ -60,9 +60,9 @@ returns-in_err-next-clause-short g c k over h held =
     let there = c.in_err-next.ensures.err k (inv.over.stays k over) h (inv.over.files ∙ held) in
     let here : EndsAt (MayAnswer c.args.showing.now c.args.file.now k) e b c.loop-place.place (record { old = g.O.Sink.written c.loop-place.out; new = new; before = first; now = last }) (g.F.Files.faults c.loop-place.files) n =
     subst (λ m. EndsAt (MayAnswer c.args.showing.now c.args.file.now k) e b c.loop-place.place (record { old = g.O.Sink.written c.loop-place.out; new = new; before = m; now = last }) (g.F.Files.faults c.loop-place.files) n) inv.out
-    (subst (λ f. EndsAt (MayAnswer c.args.showing.now f k) e b c.loop-place.place (wrote g.O.Sink.written g.O.Sink.faults c.loop-place.out c.answer_next.new.out) (g.F.Files.faults c.loop-place.files) n) inv.over.file there) in
-    let all : (ts : List (List ℕ)) × ScriptEnds (MayAnswer c.args.showing.now c.args.file.now k) e (script_lines b) ts (wrote g.O.Sink.written g.O.Sink.faults c.args.out.now c.answer_next.new.out)
-    × ShortTally e (wrote g.O.Sink.written g.O.Sink.faults c.args.out.now c.answer_next.new.out) (g.F.Files.faults c.args.files.now) n ts =
+    (subst (λ f. EndsAt (MayAnswer c.args.showing.now f k) e b c.loop-place.place (wrote g.O.Sink c.loop-place.out c.answer_next.new.out) (g.F.Files.faults c.loop-place.files) n) inv.over.file there) in
+    let all : (ts : List (List ℕ)) × ScriptEnds (MayAnswer c.args.showing.now c.args.file.now k) e (script_lines b) ts (wrote g.O.Sink c.args.out.now c.answer_next.new.out)
+    × ShortTally e (wrote g.O.Sink c.args.out.now c.answer_next.new.out) (g.F.Files.faults c.args.files.now) n ts =
     ends_here b c.loop-place.place (inv.so_far k over h held) first last e new n here in
     search rules
 
@@ -75,7 +75,7 @@ returns-in_err-next-clause-cuts g c =
     let last = g.O.Sink.faults c.answer_next.new.out in
     let here : CutsLine (form_by c.args.showing.now) e (record { old = g.O.Sink.written c.loop-place.out; new = new; before = first; now = last }) =
     subst (λ m. CutsLine (form_by c.args.showing.now) e (record { old = g.O.Sink.written c.loop-place.out; new = new; before = m; now = last })) inv.out c.in_err-next.ensures.cuts in
-    let all : EndsBy (form_by c.args.showing.now) e (wrote g.O.Sink.written g.O.Sink.faults c.args.out.now c.answer_next.new.out) =
+    let all : EndsBy (form_by c.args.showing.now) e (wrote g.O.Sink c.args.out.now c.answer_next.new.out) =
     puts_cut (form_by c.args.showing.now) c.loop-place.came (g.O.Sink.written c.args.out.now) (g.O.Sink.written c.loop-place.out) first last new e inv.puts here in
     search rules
 

@@ -13,10 +13,10 @@ use Rattle.cs_top.proofs.serve.serve_index.Goals.{After-serve_file}
 
 -- what was put, and what the hub told
 abbrev w : (g : given.Over) → After-serve_file g → Wrote
-w g c = wrote g.O.Sink.written g.O.Sink.faults c.args.out.now c.begin.new.out
+w g c = wrote g.O.Sink c.args.out.now c.begin.new.out
 
 abbrev net : (g : given.Over) → After-serve_file g → Listened
-net g c = listened g.H.Hub.state g.H.Hub.talk g.H.Hub.faults g.H.Hub.send_faults c.args.hub.now c.serve_file.new.hub
+net g c = listened g.H.Hub c.args.hub.now c.serve_file.new.hub
 
 -- it served, with this port and this room
 serving : (g : given.Over) (c : After-serve_file g) → IsServing c.args.port.now c.args.conns.now (w g c) (net g c)

@@ -36,7 +36,7 @@ returns-in-Adds-clause-err g c b s over =
     let step = change_step b s c.args.line.now c.add.result c.add.ensures.texts (added_outcome (image_of b).weights (file_corpus b) s c.in-Adds.document.now) became.0 n n
     (ap (line_outcome (image_of b).weights (file_corpus b) s) c.in-Adds.ensures) became.1 refl in
     live_err b s (c.args.number, c.args.line.now) (some_bytes c.args.line.now c.if-is_empty.ensures) (sym c.in_default.ensures) step
-    c.put_outcome.result (wrote g.O.Sink.written g.O.Sink.faults c.args.out.now c.put_outcome.new.out) c.put_outcome.ensures.err c.put_outcome.ensures.kind c.put_outcome.ensures.caused
+    c.put_outcome.result (wrote g.O.Sink c.args.out.now c.put_outcome.new.out) c.put_outcome.ensures.err c.put_outcome.ensures.kind c.put_outcome.ensures.caused
 
 pub returns-in-Adds-clause-puts : goal.returns-in-Adds-clause-puts
 returns-in-Adds-clause-puts g c =
@@ -59,7 +59,7 @@ returns-in-Deletes-clause-err g c b s over =
     let step = change_step b s c.args.line.now c.delete.result c.delete.ensures.texts (deleted_outcome s c.in-Deletes.digits.now) became.0 n n
     (ap (line_outcome (image_of b).weights (file_corpus b) s) c.in-Deletes.ensures) became.1 refl in
     live_err b s (c.args.number, c.args.line.now) (some_bytes c.args.line.now c.if-is_empty.ensures) (sym c.in_default.ensures) step
-    c.put_outcome-in-Deletes.result (wrote g.O.Sink.written g.O.Sink.faults c.args.out.now c.put_outcome-in-Deletes.new.out) c.put_outcome-in-Deletes.ensures.err c.put_outcome-in-Deletes.ensures.kind c.put_outcome-in-Deletes.ensures.caused
+    c.put_outcome-in-Deletes.result (wrote g.O.Sink c.args.out.now c.put_outcome-in-Deletes.new.out) c.put_outcome-in-Deletes.ensures.err c.put_outcome-in-Deletes.ensures.kind c.put_outcome-in-Deletes.ensures.caused
 
 pub returns-in-Deletes-clause-puts : goal.returns-in-Deletes-clause-puts
 returns-in-Deletes-clause-puts g c =
@@ -83,7 +83,7 @@ returns-in-Asks-clause-err g c b s over =
     let by = subst (λ d. IsAnswerBy d o a) c.titled.ensures c.answer_by-answer.ensures in
     let step = asked_step b s c.args.line.now c.in-Asks.params.now (sym c.in-Asks.ensures) o a _ _ _ _ c.outcome_now-outcome.ensures.comes (c.outcome_now-outcome.ensures.right b s over) by c.outcome_now-outcome.ensures.caused in
     live_err b s (c.args.number, c.args.line.now) (some_bytes c.args.line.now c.if-is_empty.ensures) (sym c.in_default.ensures) step
-    c.put_answer.result (wrote g.O.Sink.written g.O.Sink.faults c.args.out.now c.put_answer.new.out) c.put_answer.ensures.err c.put_answer.ensures.kind c.put_answer.ensures.caused
+    c.put_answer.result (wrote g.O.Sink c.args.out.now c.put_answer.new.out) c.put_answer.ensures.err c.put_answer.ensures.kind c.put_answer.ensures.caused
 
 pub returns-in-Asks-clause-puts : goal.returns-in-Asks-clause-puts
 returns-in-Asks-clause-puts g c =
@@ -98,4 +98,4 @@ returns-in-Asks-clause-cuts g c =
     let a = c.answer_by-answer.result in
     let by = subst (λ d. IsAnswerBy d o a) c.titled.ensures c.answer_by-answer.ensures in
     cuts_line_of IsLiveText (came_of_answer a) (line_bytes a) by.text by.is (answer_text c.in-Asks.params.now o a _ _ c.outcome_now-outcome.ensures.comes by) c.put_answer.result
-    (wrote g.O.Sink.written g.O.Sink.faults c.args.out.now c.put_answer.new.out) c.put_answer.ensures.err c.put_answer.ensures.kind c.put_answer.ensures.caused
+    (wrote g.O.Sink c.args.out.now c.put_answer.new.out) c.put_answer.ensures.err c.put_answer.ensures.kind c.put_answer.ensures.caused

@@ -15,7 +15,7 @@ pub returns-clause-err : goal.returns-clause-err
 returns-clause-err g c k over =
     line_err c.args.showing.now c.args.file.now k (c.args.number, c.args.line.now) c.answer_params-answer.result _ _ (some_bytes c.args.line.now c.if-is_empty.ensures) (sym c.in_default.ensures)
     (c.answer_params-answer.ensures.text k over) c.answer_params-answer.ensures.came.counts c.put_answer.result
-    (wrote g.O.Sink.written g.O.Sink.faults c.args.out.now c.put_answer.new.out) c.put_answer.ensures.err c.put_answer.ensures.kind c.put_answer.ensures.caused
+    (wrote g.O.Sink c.args.out.now c.put_answer.new.out) c.put_answer.ensures.err c.put_answer.ensures.kind c.put_answer.ensures.caused
 
 pub returns-clause-came : goal.returns-clause-came
 returns-clause-came g c =
@@ -28,5 +28,5 @@ returns-clause-puts g c = line_puts (form_by c.args.showing.now) c.answer_params
 
 pub returns-clause-cuts : goal.returns-clause-cuts
 returns-clause-cuts g c =
-    line_cuts (form_by c.args.showing.now) c.answer_params-answer.result c.answer_params-answer.ensures.texts c.put_answer.result (wrote g.O.Sink.written g.O.Sink.faults c.args.out.now c.put_answer.new.out)
+    line_cuts (form_by c.args.showing.now) c.answer_params-answer.result c.answer_params-answer.ensures.texts c.put_answer.result (wrote g.O.Sink c.args.out.now c.put_answer.new.out)
     c.put_answer.ensures.err c.put_answer.ensures.kind c.put_answer.ensures.caused
