@@ -5,19 +5,18 @@ use Rattle.std.specs.FinMap as map
 use Rattle.cs_base.specs.outside.Causes.{Rose}
 use Rattle.cs_base.specs.outside.Outside.{Held, File, IsHeld}
 use Rattle.cs_model.specs.Outputs.{MayPut, script_lines}
-use Rattle.cs_model.specs.Corpus.{Corpus}
 use Rattle.cs_model_index.specs.BlockRules.{broken_at}
 use Rattle.cs_model_index.specs.Images.{Image}
 use Rattle.cs_model_index.specs.Sections.{image_of}
-use Rattle.cs_top.specs.ScriptRuns.{AskStops, AskTold, CanAsk, CanReplay, ReplayCaused, ReplayScript, ReplayStops, ReplayTold}
+use Rattle.cs_top.specs.ScriptRuns.{AskStops, AskTold, CanAsk, CanReplay, IndexScript, ReplayCaused, ReplayStops, ReplayTold}
 use Rattle.cs_top.specs.Build.{BuildStops, BuildTold, BuildWrites, CanBuild}
 use Rattle.cs_top.specs.CommandLine.{Command, build, ask, replay, serve, trial, upgrade, merge, live, Ending, done, usage, refused, damaged, absent, failed, no_memory, script_refused, changed, merge_refused, status, Caused, CausedBy}
 use Rattle.cs_top.specs.Import.{IsAcceptedAs, IsRefusedAs, Refusal, of_collection, of_csv, of_jsonl}
-use Rattle.cs_top.specs.LiveRuns.{LiveScript, LiveTold}
+use Rattle.cs_top.specs.LiveRuns.{LiveTold}
 use Rattle.cs_top.specs.Merge.{CanMerge, MergeStops, MergeTold}
 use Rattle.cs_top.specs.Met.{Listened, Met, Wrote, held_bytes}
 use Rattle.cs_top.specs.CommandRuns.{Completes, Ran}
-use Rattle.cs_top.specs.ScriptEndings.{ScriptEnds, IsReadable}
+use Rattle.cs_top.specs.ScriptEndings.{IsReadable, MayPutAll, ScriptEnds}
 use Rattle.cs_top.specs.Serve.{CanServe, ServeCaused, ServeEnds, ServeStops, ServeTold}
 use Rattle.cs_top.specs.Trial.{TrialEnds}
 use Rattle.cs_top.specs.Upgrade.{CanUpgrade, UpgradeStops, UpgradeTold}
@@ -122,37 +121,25 @@ unplayed (script_refused f) h i s can a calm = absurd a
 unplayed changed h i s can a calm = absurd a
 unplayed (merge_refused r) h i s can a calm = absurd a
 
-played : (k : Corpus) (e : Ending) (ls : List (ℕ × List ℕ)) (before now : ℕ) (w : Wrote) → IsReadable ls → ReplayScript k e ls before now w → (e ≡ failed → ⊥) → IsWell e
-played k done ls before now w can a calm = inl refl
-played k (script_refused f) ls before now w can a calm = let e : Some f ≡ None = sym a.1.0 ∙ can in absurd cc
-played k failed ls before now w can a calm = absurd (calm refl)
-played k usage ls before now w can a calm = absurd a
-played k (refused r) ls before now w can a calm = absurd a
-played k (damaged rule at) ls before now w can a calm = absurd a
-played k (absent n) ls before now w can a calm = absurd a
-played k no_memory ls before now w can a calm = absurd a
-played k changed ls before now w can a calm = absurd a
-played k (merge_refused r) ls before now w can a calm = absurd a
+played : (A R : MayPutAll) (e : Ending) (ls : List (ℕ × List ℕ)) (before now : ℕ) (w : Wrote) → IsReadable ls → IndexScript A R e ls before now w → (e ≡ failed → ⊥) → IsWell e
+played A R done ls before now w can a calm = inl refl
+played A R (script_refused f) ls before now w can a calm = let e : Some f ≡ None = sym a.1.0 ∙ can in absurd cc
+played A R failed ls before now w can a calm = absurd (calm refl)
+played A R usage ls before now w can a calm = absurd a
+played A R (refused r) ls before now w can a calm = absurd a
+played A R (damaged rule at) ls before now w can a calm = absurd a
+played A R (absent n) ls before now w can a calm = absurd a
+played A R no_memory ls before now w can a calm = absurd a
+played A R changed ls before now w can a calm = absurd a
+played A R (merge_refused r) ls before now w can a calm = absurd a
 
 replay_told : (e : Ending) (h : Held) (i s : List ℕ) (before now : ℕ) (w : Wrote) → ReplayTold e h i s before now w → CanReplay h i s → (e ≡ failed → ⊥) → IsWell e
 replay_told e h i s before now w (inl a) can calm = unplayed e h i s can a.0 calm
-replay_told e h i s before now w (inr a) can calm = played _ e (script_lines (held_bytes h s)) before now w can.1 a.1 calm
-
-lived : (b : List ℕ) (e : Ending) (ls : List (ℕ × List ℕ)) (before now : ℕ) (w : Wrote) → IsReadable ls → LiveScript b e ls before now w → (e ≡ failed → ⊥) → IsWell e
-lived b done ls before now w can a calm = inl refl
-lived b (script_refused f) ls before now w can a calm = let e : Some f ≡ None = sym a.1.0 ∙ can in absurd cc
-lived b failed ls before now w can a calm = absurd (calm refl)
-lived b usage ls before now w can a calm = absurd a
-lived b (refused r) ls before now w can a calm = absurd a
-lived b (damaged rule at) ls before now w can a calm = absurd a
-lived b (absent n) ls before now w can a calm = absurd a
-lived b no_memory ls before now w can a calm = absurd a
-lived b changed ls before now w can a calm = absurd a
-lived b (merge_refused r) ls before now w can a calm = absurd a
+replay_told e h i s before now w (inr a) can calm = played _ _ e (script_lines (held_bytes h s)) before now w can.1 a.1 calm
 
 live_told : (e : Ending) (h : Held) (i s : List ℕ) (before now : ℕ) (w : Wrote) → LiveTold e h i s before now w → CanReplay h i s → (e ≡ failed → ⊥) → IsWell e
 live_told e h i s before now w (inl a) can calm = unplayed e h i s can a.0 calm
-live_told e h i s before now w (inr a) can calm = lived _ e (script_lines (held_bytes h s)) before now w can.1 a.1 calm
+live_told e h i s before now w (inr a) can calm = played _ _ e (script_lines (held_bytes h s)) before now w can.1 a.1 calm
 
 no_failed_replay : (e : Ending) (fb fn ob on : ℕ) → ReplayCaused e fb fn ob on → (Rose fb fn → ⊥) → (Rose ob on → ⊥) → e ≡ failed → ⊥
 no_failed_replay e fb fn ob on cause files out is = elim (subst (λ x. ReplayCaused x fb fn ob on) is cause).0 [ inl r ↦ files r | inr r ↦ out r ]

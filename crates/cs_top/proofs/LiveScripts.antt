@@ -2,35 +2,30 @@
 --
 --   live_start                       before the first line
 --   live_goes_on, live_ends_here, live_ends_done     behind a line, at one at which it ends, and at the end of the file
---   live_short, live_answered, live_read, live_changed     of `live`: its script ended early, each line was answered, a read failed
---   script_caused, answered_caused, read_caused, changed_caused      and why a count rose, or none did
-use Rattle.std.proofs.Common.{◌≡◌, ℕ, suc, ◌+◌, ◌≤◌, List, [], ◌∷◌, ◌++◌, length, take, inl, inr, refl, sym, ap, subst, arith}
-use Rattle.std.specs.Prelude.{Option, false}
-use Rattle.std.proofs.lemmas.List.{take_all}
+--   live_ended                       how its script ended
+use Rattle.std.proofs.Common.{◌≡◌, ℕ, suc, ◌+◌, ◌≤◌, List, [], ◌∷◌, ◌++◌, length, inl, inr, refl, sym, ap, subst, arith}
+use Rattle.std.specs.Prelude.{Option, Result, IfOk, IfErr}
 use Rattle.std.proofs.lemmas.List.Elements.{All-nil, All-push}
 use Rattle.cs_base.specs.outside.Causes.{Rose}
-use Rattle.cs_base.proofs.GrewLemmas.{grew_begun}
 use Rattle.cs_model.specs.Corpus.{Corpus}
-use Rattle.cs_model.specs.Outputs.{IsChangedText, put_of, readable_lines}
+use Rattle.cs_model.specs.Outputs.{IsChangedText, failed_reads, readable_lines}
 use Rattle.cs_base.specs.declared.content.scores.Weights.{Weights}
 use Rattle.cs_model_index.specs.Sections.{file_corpus, image_of}
 use Rattle.cs_model_live.proofs.CourseLemmas.{courses_go_on}
 use Rattle.cs_model_live.specs.Courses.{Course}
 use Rattle.cs_model_live.specs.LiveStates.{LiveState, before_changes}
 use Rattle.cs_top.proofs.AnsweredLemmas.{HasAnswered, as_put, at_start, ends_at_line, ends_done, goes_behind, goes_past, lines_at, unread}
+use Rattle.cs_top.proofs.ScriptLemmas.{index_ended}
 use Rattle.cs_top.specs.Answering.{CameCounts, worst}
-use Rattle.cs_top.specs.CommandLine.{Ending, changed, done, failed}
+use Rattle.cs_top.specs.CommandLine.{Ending, done, failed}
 use Rattle.cs_top.specs.LiveRuns.{IsToldCourse, LiveScript}
 use Rattle.cs_top.specs.LiveSteps.{IsLiveStep, IsToldCourseTo, LineText, LiveReaches}
 use Rattle.cs_top.specs.Met.{Wrote}
-use Rattle.cs_top.specs.ScriptEndings.{EndsAt, ScriptCaused, ScriptEndsBy, ShortTally, Tally}
-use Rattle.cs_top.specs.ScriptRuns.{ReplayCaused}
-use Rattle.cs_top.specs.Views.{of_script, stop_ending}
+use Rattle.cs_top.specs.ScriptEndings.{EndsAt, ScriptEndsBy, ShortTally, Tally}
+use Rattle.cs_top.specs.Views.{of_script, script_ending, stop_ending}
 use Rattle.cs_top.specs.declared.lines.Place.{Place}
 use Rattle.cs_top.specs.declared.lines.ScriptStop.{ScriptStop}
-use Rattle.cs_top.specs.declared.lines.ScriptStop.TheVariants as scripts
 use Rattle.cs_top.specs.declared.script.WhatCame.{WhatCame}
-use Rattle.cs_top.specs.declared.script.WhatCame.TheVariants as came
 use Rattle.cs_top.specs.declared.script.WhatCame.TheVariants.{Answered}
 
 -- ---- courses
@@ -91,37 +86,9 @@ module _ (b : List ℕ) (s : LiveState) (x : List ℕ) (p : Place) {all : List (
   live_ends_done first last far = ends_done x p told first last far
 
 -- ---- of `live`
-module _ (b : List ℕ) (ls : List (ℕ × List ℕ)) (before now : ℕ) (w : Wrote) where
-  pub live_short : (s : ScriptStop) → ((ts : List (List ℕ)) × ScriptEndsBy (IsToldCourse b) (stop_ending (of_script s)) ls ts w × ShortTally (stop_ending (of_script s)) w before now ts) → LiveScript b (stop_ending (of_script s)) ls before now w
-  live_short (scripts.Unread x) (ts, h, t) = (ts, h, t.rose)
-  live_short scripts.Failed (ts, h, t) = (ts, h, t.rose, λ low few. absurd (few (t.more refl low)))
-
-  pub live_answered : ((ts : List (List ℕ)) × ScriptEndsBy (IsToldCourse b) done ls ts w × Tally came.Answered before now ts) → LiveScript b done ls before now w
-  live_answered (ts, h, t) = (ts, h, t.clean (λ e. cc e))
-
-  pub live_read : ((ts : List (List ℕ)) × ScriptEndsBy (IsToldCourse b) done ls ts w × Tally came.Read before now ts) → LiveScript b failed ls before now w
-  live_read (ts, h, t) =
-      let even = length_course (image_of b).weights (file_corpus b) (before_changes (file_corpus b)) h.1.0.course.0 (readable_lines ls) ts h.1.0.course.1 in
-      let all : IsToldCourse b (take (length ts) (readable_lines ls)) ts = subst (λ ks. IsToldCourse b ks ts) (sym (take_all (length ts) (readable_lines ls) (omega (arith, even)))) h.1.0 in
-      (ts, ((all, grew_begun w.old (put_of ts) w.new h.1.1), λ low. h.1.1), t.rose, λ low few. h)
-
-  pub live_changed : ((ts : List (List ℕ)) × ScriptEndsBy (IsToldCourse b) done ls ts w × Tally came.Changed before now ts) → ⊥
-  live_changed (ts, h, t) = t.unchanged refl
-
--- ---- why a run ends behind its script
--- each line was answered: no count rose
-pub answered_caused : (before now first last : ℕ) → CameCounts Answered before now → last ≡ first → ReplayCaused done before now first last
-answered_caused before now first last c quiet = (c.quiet (λ e. cc e), quiet)
-
--- a read failed
-pub read_caused : (before now first last : ℕ) → CameCounts came.Read before now → last ≡ first → ReplayCaused failed before now first last
-read_caused before now first last c quiet = (inl (c.read refl), c.later, omega (arith, quiet))
-
--- the file changed: no count rose
-pub changed_caused : (before now first last : ℕ) → CameCounts came.Changed before now → last ≡ first → ReplayCaused changed before now first last
-changed_caused before now first last c quiet = (c.quiet (λ e. cc e), quiet)
-
--- its script ended early
-pub script_caused : (s : ScriptStop) (from before now first last : ℕ) → before ≡ from → ScriptCaused (stop_ending (of_script s)) false before now first last → ReplayCaused (stop_ending (of_script s)) from now first last
-script_caused (scripts.Unread x) from before now first last calm c = (subst (λ n. n ≤ now) calm c.0, c.2)
-script_caused scripts.Failed from before now first last calm c = subst (λ n. ReplayCaused failed n now first last) calm c
+pub live_ended : (b : List ℕ) (ls : List (ℕ × List ℕ)) (before now : ℕ) (w : Wrote) (r : Result WhatCame ScriptStop)
+    → IfOk r (λ came. (ts : List (List ℕ)) × ScriptEndsBy (IsToldCourse b) done ls ts w × Tally came before now ts)
+    → IfErr r (λ s. (ts : List (List ℕ)) × ScriptEndsBy (IsToldCourse b) (stop_ending (of_script s)) ls ts w × ShortTally (stop_ending (of_script s)) w before now ts) → LiveScript b (script_ending r) ls before now w
+live_ended b ls before now w =
+    index_ended (IsToldCourse b) (λ ls ts. IsToldCourse b ls ts × (failed_reads ts ≡ 0)) (IsToldCourse b) ls before now w (λ e ts h. h) (λ ts h none. (h, none))
+    (λ ts h. length_course (image_of b).weights (file_corpus b) (before_changes (file_corpus b)) h.course.0 (readable_lines ls) ts h.course.1)

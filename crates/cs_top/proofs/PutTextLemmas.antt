@@ -3,7 +3,7 @@
 --   IsApart own, own_apart   texts that lines may have of their own, and those of a form
 --   puts_none, puts_more     for no lines, and for one more; `puts_none_of` and the like of any such texts
 --   puts_cut, nothing_put    where the script ends at a line, or before the first one
---   puts_some                of any lines
+--   puts_some_of             of any lines
 --   line_puts, line_cuts     a line whose answer was put, and one whose answer wasn't put whole; `puts_line_of` and `cuts_line_of` of any such texts
 use Rattle.std.proofs.Common.{◌≡◌, ◌≢◌, ◌⊎◌, ℕ, List, [], ◌∷◌, ◌++◌, Contains, inl, inr, refl, sym, ◌∙◌, ap, subst}
 use Rattle.std.specs.Prelude.{Option, Result, Ok, Err, IfOk, IfErr, OnOk, OnErr}
@@ -135,9 +135,6 @@ puts_none form = puts_none_of (IsOwnText form)
 
 pub puts_more : (form : HitForm) (came met : WhatCame) (old now new : Option (List ℕ)) → PutsTexts form came old now → PutsLine form met now new → PutsTexts form (worst came met) old new
 puts_more form = puts_more_of (IsOwnText form) (own_apart form)
-
-pub puts_some : (form : HitForm) (came : WhatCame) (w : Wrote) → PutsTexts form came w.old w.new → EndsBy form failed w
-puts_some form = puts_some_of (IsOwnText form)
 
 pub nothing_put : (form : HitForm) (w : Wrote) → w.new ≡ w.old → EndsBy form failed w
 nothing_put form = nothing_put_of (IsOwnText form)

@@ -3,29 +3,30 @@
 --   ends_by          what a relation says another one says too
 --   made_only        over a file in memory a line has its text or that of want of memory, with or without excerpts
 --   held_by, over_made, there_made, some_made, over_held     what is answered over: a file that was made, and one that is held
---   script_short, script_answered, script_read     of `replay`: its script ended early, each line was answered, a read failed
-use Rattle.std.proofs.Common.{◌≡◌, ℕ, ◌+◌, Bool, true, false, List, [], ◌∷◌, length, take, inl, inr, refl, sym, ap, ◌∙◌, subst, arith}
-use Rattle.std.specs.Prelude.{Option, Some, None, is_some, if◌then◌else◌, Result, Ok, Err, IfOk, IfErr}
+--   index_ended, replay_ended, index_caused     how a script over an index file ended, as `replay` says it, and why
+use Rattle.std.proofs.Common.{◌≡◌, ℕ, ◌+◌, ◌≤◌, Bool, true, false, List, [], ◌∷◌, length, take, inl, inr, refl, sym, ap, ◌∙◌, subst, arith}
+use Rattle.std.specs.Prelude.{Option, Some, None, is_some, if◌then◌else◌, Result, Ok, Err, IfOk, IfErr, OnOk}
 use Rattle.std.specs.Str.{bytes_eq}
 use Rattle.std.proofs.lemmas.List.{take_all}
 use Rattle.std.proofs.lemmas.Slice.Eq.{bytes_eq-Decides}
 use Rattle.cs_model.specs.Corpus.{Corpus}
-use Rattle.cs_model.specs.Outputs.{MayPut, OneEach, AnswersFirst, IsAnswer, failed_reads, put_of, read_text, readable_lines}
+use Rattle.cs_model.specs.Outputs.{MayPut, OneEach, IsAnswer, failed_reads, put_of, read_text, readable_lines}
 use Rattle.cs_model.proofs.OutputLemmas.{length-one_each}
 use Rattle.cs_base.specs.outside.Outside.{File, Held, IsHeld, file_bytes, size_of}
 use Rattle.cs_base.proofs.GrewLemmas.{grew_begun}
 use Rattle.cs_engine.specs.Keeping.{EngineView, AreGood}
 use Rattle.cs_file.specs.Indexes.{IndexView, HasAllBlocks, StandsFor}
 use Rattle.cs_model_index.specs.Sections.{file_corpus}
-use Rattle.cs_top.specs.Answering.{AnswersOver, FileView, IsReplayed, IsThere, MayAnswer, bytes_there}
+use Rattle.cs_top.specs.Answering.{AnswersOver, CameCounts, FileView, IsReplayed, IsThere, MayAnswer, bytes_there}
 use Rattle.cs_top.specs.CommandLine.{Ending, done, usage, refused, damaged, absent, failed, no_memory, script_refused, changed, merge_refused}
 use Rattle.cs_top.specs.HitForms.{AtHand, MayShow}
 use Rattle.cs_top.specs.Met.{Wrote, held_bytes}
-use Rattle.cs_top.specs.ScriptRuns.{ReplayScript}
-use Rattle.cs_top.specs.ScriptEndings.{ScriptEnds, ShortTally, Tally}
-use Rattle.cs_top.specs.Views.{of_script, stop_ending}
+use Rattle.cs_top.specs.ScriptRuns.{IndexScript, ReplayCaused, ReplayScript}
+use Rattle.cs_top.specs.ScriptEndings.{MayPutAll, ScriptCaused, ScriptEnds, ScriptEndsBy, ShortTally, Tally}
+use Rattle.cs_top.specs.Views.{fault_seen, of_script, script_ending, stop_ending}
 use Rattle.cs_top.specs.declared.lines.ScriptStop.{ScriptStop}
 use Rattle.cs_top.specs.declared.lines.ScriptStop.TheVariants as scripts
+use Rattle.cs_top.specs.declared.script.WhatCame.{WhatCame}
 use Rattle.cs_top.specs.declared.script.WhatCame.TheVariants as came
 
 each_by : (A B : MayPut) → ((l t : List ℕ) → A l t → B l t) → (ls ts : List (List ℕ)) → OneEach A ls ts → OneEach B ls ts
@@ -54,9 +55,12 @@ pub made_only : (docs : AtHand) (f : FileView) (k : Corpus) → is_some f.made �
 made_only docs f k some l t (inl a) = a
 made_only docs f k some l t (inr r) = absurd (some_none f.made some r.0)
 
-pub replayed : (f : FileView) (k : Corpus) (l t : List ℕ) → MayAnswer None f k l t → IsReplayed k l t
-replayed f k l t (inl a) = inl a
-replayed f k l t (inr (made, accepted, is)) = inr (accepted, is)
+replayed : (docs : AtHand) (f : FileView) (k : Corpus) → docs ≡ None → (l t : List ℕ) → MayAnswer docs f k l t → IsReplayed k l t
+replayed docs f k titled l t may = plain (subst (λ (d : AtHand). MayAnswer d f k l t) titled may)
+  where
+    plain : MayAnswer None f k l t → IsReplayed k l t
+    plain (inl a) = inl a
+    plain (inr (made, accepted, is)) = inr (accepted, is)
 
 -- ---- where no text says that a read failed
 counted : (t : List ℕ) (ts : List (List ℕ)) (b : Bool) → bytes_eq t read_text ≡ b → failed_reads (t ∷ ts) ≡ (if b then 1 + failed_reads ts else failed_reads ts)
@@ -78,26 +82,37 @@ plain_each k [] (t ∷ ts) none h = absurd h
 plain_each k (l ∷ ls) [] none h = absurd h
 plain_each k (l ∷ ls) (t ∷ ts) none h = one_plain k l t ls ts (bytes_eq t read_text) refl none h.0 (λ rest. plain_each k ls ts rest h.1)
 
--- ---- of `replay`
-module _ (f : FileView) (k : Corpus) (ls : List (ℕ × List ℕ)) (before now : ℕ) (w : Wrote) where
-  pub script_short : (s : ScriptStop) → ((ts : List (List ℕ)) × ScriptEnds (MayAnswer None f k) (stop_ending (of_script s)) ls ts w × ShortTally (stop_ending (of_script s)) w before now ts) → ReplayScript k (stop_ending (of_script s)) ls before now w
-  script_short (scripts.Unread x) (ts, h, t) = (ts, ends_by (MayAnswer None f k) (IsReplayed k) (replayed f k) (stop_ending (of_script (scripts.Unread x))) ls ts w h, t.rose)
-  script_short scripts.Failed (ts, h, t) = (ts, ends_by (MayAnswer None f k) (IsReplayed k) (replayed f k) failed ls ts w h, t.rose, λ low few. absurd (few (t.more refl low)))
-
-  pub script_answered : ((ts : List (List ℕ)) × ScriptEnds (MayAnswer None f k) done ls ts w × Tally came.Answered before now ts) → ReplayScript k done ls before now w
-  script_answered (ts, h, t) =
-      let put = ends_by (MayAnswer None f k) (IsReplayed k) (replayed f k) done ls ts w h in
-      (ts, (put.0, (plain_each k (readable_lines ls) ts (t.clean (λ e. cc e)) put.1.0, put.1.1)))
-
-  pub script_read : ((ts : List (List ℕ)) × ScriptEnds (MayAnswer None f k) done ls ts w × Tally came.Read before now ts) → ReplayScript k failed ls before now w
-  script_read (ts, h, t) =
-      let put = ends_by (MayAnswer None f k) (IsReplayed k) (replayed f k) done ls ts w h in
-      let all : AnswersFirst (IsReplayed k) (readable_lines ls) ts =
-      subst (λ x. OneEach (IsReplayed k) x ts) (sym (take_all (length ts) (readable_lines ls) (let e = length-one_each (IsReplayed k) (readable_lines ls) ts put.1.0 in omega (arith, e)))) put.1.0 in
+-- ---- of scripts over an index file
+-- What is put is said by Q, and so by R; where no text says that a read failed, A says it too.
+module _ (Q A R : MayPutAll) (ls : List (ℕ × List ℕ)) (before now : ℕ) (w : Wrote) (by : (e : Ending) (ts : List (List ℕ)) → ScriptEndsBy Q e ls ts w → ScriptEndsBy R e ls ts w)
+    (plain : (ts : List (List ℕ)) → R (readable_lines ls) ts → failed_reads ts ≡ 0 → A (readable_lines ls) ts) (even : (ts : List (List ℕ)) → R (readable_lines ls) ts → length ts ≡ length (readable_lines ls)) where
+  pub index_ended : (r : Result WhatCame ScriptStop) → IfOk r (λ came. (ts : List (List ℕ)) × ScriptEndsBy Q done ls ts w × Tally came before now ts)
+      → IfErr r (λ s. (ts : List (List ℕ)) × ScriptEndsBy Q (stop_ending (of_script s)) ls ts w × ShortTally (stop_ending (of_script s)) w before now ts) → IndexScript A R (script_ending r) ls before now w
+  index_ended (Ok came.Answered) (ts, h, t) short = let put = by done ts h in (ts, (put.0, (plain ts put.1.0 (t.clean (λ e. cc e)), put.1.1)))
+  index_ended (Ok came.Read) (ts, h, t) short =
+      let put = by done ts h in
+      let all : R (take (length ts) (readable_lines ls)) ts =
+      subst (λ x. R x ts) (sym (take_all (length ts) (readable_lines ls) (let e = even ts put.1.0 in omega (arith, e)))) put.1.0 in
       (ts, ((all, grew_begun w.old (put_of ts) w.new put.1.1), λ low. put.1.1), t.rose, λ low few. put)
+  index_ended (Ok came.Changed) (ts, h, t) short = absurd (t.unchanged refl)
+  index_ended (Err (scripts.Unread x)) whole (ts, h, t) = (ts, by (script_refused (fault_seen x)) ts h, t.rose)
+  index_ended (Err scripts.Failed) whole (ts, h, t) = (ts, by failed ts h, t.rose, λ low few. absurd (few (t.more refl low)))
 
-  pub script_changed : ((ts : List (List ℕ)) × ScriptEnds (MayAnswer None f k) done ls ts w × Tally came.Changed before now ts) → ⊥
-  script_changed (ts, h, t) = t.unchanged refl
+pub replay_ended : (docs : AtHand) (f : FileView) (k : Corpus) (ls : List (ℕ × List ℕ)) (before now : ℕ) (w : Wrote) → docs ≡ None
+    → (r : Result WhatCame ScriptStop) → IfOk r (λ came. (ts : List (List ℕ)) × ScriptEnds (MayAnswer docs f k) done ls ts w × Tally came before now ts)
+    → IfErr r (λ s. (ts : List (List ℕ)) × ScriptEnds (MayAnswer docs f k) (stop_ending (of_script s)) ls ts w × ShortTally (stop_ending (of_script s)) w before now ts) → ReplayScript k (script_ending r) ls before now w
+replay_ended docs f k ls before now w titled =
+    index_ended (OneEach (MayAnswer docs f k)) (OneEach (IsAnswer k)) (OneEach (IsReplayed k)) ls before now w
+    (λ e ts. ends_by (MayAnswer docs f k) (IsReplayed k) (replayed docs f k titled) e ls ts w) (λ ts h none. plain_each k (readable_lines ls) ts none h) (λ ts h. length-one_each (IsReplayed k) (readable_lines ls) ts h)
+
+-- a result that is known is put into a whole run that begins before it
+pub index_caused : (r : Result WhatCame ScriptStop) (made : Bool) (from before now first last : ℕ) → before ≡ from → IfOk r (λ came. CameCounts came before now) → OnOk r (last ≡ first)
+    → IfErr r (λ s. ScriptCaused (stop_ending (of_script s)) made before now first last) → ReplayCaused (script_ending r) from now first last
+index_caused (Ok came.Answered) made from before now first last calm c quiet short = (c.quiet (λ e. cc e) ∙ calm, quiet)
+index_caused (Ok came.Read) made from before now first last calm c quiet short = subst (λ n. ReplayCaused failed n now first last) calm (inl (c.read refl), c.later, omega (arith, quiet))
+index_caused (Ok came.Changed) made from before now first last calm c quiet short = (c.quiet (λ e. cc e) ∙ calm, quiet)
+index_caused (Err (scripts.Unread x)) made from before now first last calm c quiet short = (subst (λ n. n ≤ now) calm short.0, short.2)
+index_caused (Err scripts.Failed) made from before now first last calm c quiet short = subst (λ n. ReplayCaused failed n now first last) calm short
 
 -- ---- what is answered over
 -- a file of some size is held

@@ -8,9 +8,10 @@
 --   short_of, short_by                      a stop of a script
 --   ended_early                             a stop that is handed on ends the run
 --   live_first, live_second, live_unopened      a `live` ends before its script, over files that tell
---   ask_absent, ask_refused, replay_absent, replay_damaged, live_absent, live_damaged     so an `ask`, a `replay` and a `live` end before their script
+--   ask_absent, ask_refused, index_absent, index_damaged     so an `ask`, and a `replay` or a `live`, end before their script
+--   index_ends                              so these end with their script
 use Rattle.std.proofs.Common.{◌≡◌, ◌⊎◌, ℕ, List, inl, inr, refl, sym, subst}
-use Rattle.std.specs.Prelude.{Option, Some, None, MatchOption, Result, Ok, Err, IfErr}
+use Rattle.std.specs.Prelude.{Option, Some, None, MatchOption, Result, Ok, Err, IfOk, IfErr}
 use Rattle.std.specs.Result.{IsErrAnd}
 use Rattle.std.specs.Option.{ForSome, option_map}
 use Rattle.std.specs.FinMap as map
@@ -29,23 +30,22 @@ use Rattle.cs_merge.specs.Merging.{merge_refusal_of}
 use Rattle.cs_top.specs.CommandLine.{Ending, absent, changed, damaged, failed, merge_refused, no_memory, refused, script_refused}
 use Rattle.cs_top.specs.Import.{IsRefusedAs, Refusal, form_of, of_collection, of_csv, of_jsonl}
 use Rattle.cs_top.specs.Met.{Wrote, held_bytes}
-use Rattle.cs_top.specs.LiveRuns.{LiveEnds, LiveTold}
-use Rattle.cs_top.specs.LiveTexts.{IsLiveText}
-use Rattle.cs_top.specs.PutTexts.{EndsBy, EndsOf, IsOwnText, OwnText}
-use Rattle.cs_top.specs.ScriptRuns.{AreHeld, AskEnds, ReplayEnds}
-use Rattle.cs_top.specs.Views.{IsAbsence, IsDamage, IsMergeCause, IsMissing, IsOfIndex, IsOfSource, IsOfWhole, IsSourceCause, IsStopCause, IsWholeCause, collection_ending, collection_refusal_of, ended, fault_form, fault_seen, import_refusal_of, merge_ending, of_script, source_refusal_of, stop_ending}
+use Rattle.cs_top.specs.LiveRuns.{LiveTold}
+use Rattle.cs_top.specs.PutTexts.{EndsBy, EndsOf, IsOwnText, OwnText, PutsTextsOf}
+use Rattle.cs_top.specs.ScriptRuns.{AreHeld, AskEnds, IndexEnds}
+use Rattle.cs_top.specs.Views.{IsAbsence, IsDamage, IsMergeCause, IsMissing, IsOfIndex, IsOfSource, IsOfWhole, IsSourceCause, IsStopCause, IsWholeCause, collection_ending, collection_refusal_of, ended, fault_form, fault_seen, import_refusal_of, merge_ending, of_script, script_ending, source_refusal_of, stop_ending}
 use Rattle.cs_top.specs.declared.ending.RunStop.{RunStop}
 use Rattle.cs_top.specs.declared.ending.RunStop.TheVariants as stops
 use Rattle.cs_top.specs.declared.lines.ScriptStop.{ScriptStop}
 use Rattle.cs_top.specs.declared.lines.ScriptStop.TheVariants as scripts
 use Rattle.cs_top.specs.declared.script.WhatCame.{WhatCame}
+use Rattle.cs_top.specs.declared.script.WhatCame.TheVariants as came
 use Rattle.cs_top.specs.declared.sources.SourceFault.{SourceFault}
 use Rattle.cs_top.specs.declared.sources.SourceFault.TheVariants as sources
 use Rattle.cs_top.specs.declared.words.Form.{Form}
 use Rattle.cs_top.specs.declared.words.Form.TheVariants as forms
 use Rattle.cs_top.specs.declared.words.HitForm.{HitForm}
-use Rattle.cs_top.specs.declared.words.HitForm.TheVariants.{Titled}
-use Rattle.cs_top.proofs.PutTextLemmas.{nothing_put, nothing_put_of}
+use Rattle.cs_top.proofs.PutTextLemmas.{nothing_put, nothing_put_of, puts_some_of}
 
 -- a refusal that is made of another one has its form
 formed : {A : Type 0} (form : Form) (made : A → Refusal) → ((a : A) → form_of (made a) ≡ form) → (o : Option A) → ForSome (option_map made o) (λ r. form_of r ≡ form)
@@ -208,17 +208,20 @@ module _ (a s : List ℕ) (w : Wrote) (x : RunStop) (same : w.new ≡ w.old) whe
   pub ask_refused : (form : HitForm) → IsOfSource forms.Collection x → AskEnds form (stop_ending x) a s w
   ask_refused form is = source_by (λ e. AskEnds form e a s w) forms.Collection x is (λ r has. (has, same)) (nothing_put form w same) same
 
-  pub replay_absent : (name : List ℕ) → IsAbsence x name → (name ≡ a) ⊎ (name ≡ s) → ReplayEnds (stop_ending x) a s w
-  replay_absent name is one = absence_by (λ e. ReplayEnds e a s w) x name is (one, same) (nothing_put Titled w same)
+  pub index_absent : (own : OwnText) (name : List ℕ) → IsAbsence x name → (name ≡ a) ⊎ (name ≡ s) → IndexEnds own (stop_ending x) a s w
+  index_absent own name is one = absence_by (λ e. IndexEnds own e a s w) x name is (one, same) (nothing_put_of own w same)
 
-  pub replay_damaged : IsOfIndex x → ReplayEnds (stop_ending x) a s w
-  replay_damaged is = index_by (λ e. ReplayEnds e a s w) x is (λ rule at. same) (nothing_put Titled w same) same
+  pub index_damaged : (own : OwnText) → IsOfIndex x → IndexEnds own (stop_ending x) a s w
+  index_damaged own is = index_by (λ e. IndexEnds own e a s w) x is (λ rule at. same) (nothing_put_of own w same) same
 
-  pub live_absent : (name : List ℕ) → IsAbsence x name → (name ≡ a) ⊎ (name ≡ s) → LiveEnds (stop_ending x) a s w
-  live_absent name is one = absence_by (λ e. LiveEnds e a s w) x name is (one, same) (nothing_put_of IsLiveText w same)
-
-  pub live_damaged : IsOfIndex x → LiveEnds (stop_ending x) a s w
-  live_damaged is = index_by (λ e. LiveEnds e a s w) x is (λ rule at. same) (nothing_put_of IsLiveText w same) same
+-- with its script
+pub index_ends : (own : OwnText) (i s : List ℕ) (w : Wrote) (r : Result WhatCame ScriptStop) → IfOk r (λ came. PutsTextsOf own came w.old w.new)
+    → IfErr r (λ x. EndsOf own (stop_ending (of_script x)) w) → IndexEnds own (script_ending r) i s w
+index_ends own i s w (Ok came.Answered) put cut = put
+index_ends own i s w (Ok came.Read) put cut = puts_some_of own came.Read w put
+index_ends own i s w (Ok came.Changed) put cut = put
+index_ends own i s w (Err (scripts.Unread f)) put cut = cut
+index_ends own i s w (Err scripts.Failed) put cut = cut
 
 -- ---- of `live`, over files that tell, where nothing was put
 module _ (h : Held) (i s : List ℕ) (before now : ℕ) (w : Wrote) (same : w.new ≡ w.old) where

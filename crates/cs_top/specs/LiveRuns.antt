@@ -9,22 +9,18 @@
 --   LiveRan e i s m              a whole run
 --
 -- Before its script a run ends as one of `replay` does, for the same causes, and it can answer the same scripts whole.
-use Rattle.std.specs.Prelude.{◌≡◌, ◌⊎◌, ℕ, List, ◌+◌}
+use Rattle.std.specs.Prelude.{◌≡◌, ◌⊎◌, ℕ, List}
 use Rattle.std.specs.List.{All}
 use Rattle.std.specs.Option.{ForSome}
-use Rattle.cs_base.specs.outside.Causes.{Rose}
 use Rattle.cs_base.specs.outside.Outside.{Held}
-use Rattle.cs_hub.specs.Streams.{RoseBy}
 use Rattle.cs_model.specs.Outputs.{IsChangedText, failed_reads, script_lines}
 use Rattle.cs_model_index.specs.Sections.{file_corpus, image_of}
 use Rattle.cs_model_live.specs.Courses.{Course}
 use Rattle.cs_model_live.specs.LiveStates.{LiveState, before_changes}
-use Rattle.cs_top.specs.CommandLine.{Ending, usage, refused, absent, damaged, failed, no_memory, done, script_refused}
+use Rattle.cs_top.specs.CommandLine.{Ending}
 use Rattle.cs_top.specs.LiveTexts.{IsLiveText}
 use Rattle.cs_top.specs.Met.{Met, Wrote, held_bytes}
-use Rattle.cs_top.specs.PutTexts.{EndsOf}
-use Rattle.cs_top.specs.ScriptEndings.{ScriptEndsBy}
-use Rattle.cs_top.specs.ScriptRuns.{CanBeOpened, ReplayCaused, ReplayStops}
+use Rattle.cs_top.specs.ScriptRuns.{CanBeOpened, IndexEnds, IndexScript, ReplayCaused, ReplayStops}
 
 -- over the corpus of the bytes, by their weights; of no lines no texts, and the state before the first change
 abbrev pub IsCourseFrom : List ℕ → LiveState → List (List ℕ) → List (List ℕ) → Type 0
@@ -39,16 +35,9 @@ pub record IsToldCourse (b : List ℕ) (ls ts : List (List ℕ)) : Type 0 where
   pub course : IsCourse b ls ts
   pub unchanged : All (λ t. ¬ IsChangedText t) ts
 
--- Done: each line was answered, and no read failed. A refused line: those before it were answered. Failed: some first lines were; where
--- out's count didn't rise, and the files' count no more than texts say that a read failed, all of them. It ends in no other way.
--- Of the texts at most as many say that a read failed as the count rose by, unless that stands at its last value.
+-- where no read failed no text says so
 abbrev pub LiveScript : List ℕ → Ending → List (ℕ × List ℕ) → ℕ → ℕ → Wrote → Type 0
-LiveScript b done ls before now w = (ts : List (List ℕ)) × ScriptEndsBy (IsToldCourse b) done ls ts w × (failed_reads ts ≡ 0)
-LiveScript b (script_refused f) ls before now w = (ts : List (List ℕ)) × ScriptEndsBy (IsToldCourse b) (script_refused f) ls ts w × RoseBy (failed_reads ts) before now
-LiveScript b failed ls before now w =
-    (ts : List (List ℕ)) × ScriptEndsBy (IsToldCourse b) failed ls ts w × RoseBy (failed_reads ts) before now
-    × (¬ Rose w.before w.now → ¬ RoseBy (failed_reads ts + 1) before now → ScriptEndsBy (IsToldCourse b) done ls ts w)
-LiveScript b e ls before now w = ⊥
+LiveScript b = IndexScript (λ ls ts. IsToldCourse b ls ts × (failed_reads ts ≡ 0)) (IsToldCourse b)
 
 -- how it ended over files that tell: before its script, with nothing put, or with its script; the numbers are the files' count before
 -- and after it
@@ -56,15 +45,9 @@ abbrev pub LiveTold : Ending → Held → List ℕ → List ℕ → ℕ → ℕ 
 LiveTold e h i s before now w =
     (ReplayStops e h i s × (w.new ≡ w.old)) ⊎ (CanBeOpened h i s × LiveScript (held_bytes h i) e (script_lines (held_bytes h s)) before now w)
 
--- how it may end over any files: a name that is said to be absent is one of the two, nothing is put before the script, and with its
--- script by the texts that were put
+-- lines that add and delete have texts of their own too
 abbrev pub LiveEnds : Ending → List ℕ → List ℕ → Wrote → Type 0
-LiveEnds usage i s w = ⊥
-LiveEnds (refused r) i s w = ⊥
-LiveEnds (absent name) i s w = ((name ≡ i) ⊎ (name ≡ s)) × (w.new ≡ w.old)
-LiveEnds (damaged rule at) i s w = w.new ≡ w.old
-LiveEnds no_memory i s w = w.new ≡ w.old
-LiveEnds e i s w = EndsOf IsLiveText e w
+LiveEnds = IndexEnds IsLiveText
 
 -- a whole run; it changes no file, and meets no hub
 pub record LiveRan {H : Type 0} (e : Ending) (i s : List ℕ) (m : Met H) : Type 0 where

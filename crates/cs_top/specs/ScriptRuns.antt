@@ -12,10 +12,12 @@
 --   CanAsk h c s             the script can be answered whole
 --   CanBeOpened h i s        both files are held, and the first is an index file
 --   ReplayStops e h i s      what shows that `replay` ended so before its script
---   IsWholeBut k ls ts w     each line has its text, a failed read's among them
---   ReplayScript k e ls before now w     how its script ended over a corpus, and what was put for it
+--   IndexScript A R e ls before now w     how a script over an index file ended, and what was put for it: A and R say which texts may be put for which
+--                            lines, A where no read failed
+--   ReplayScript k e ls before now w     the same of `replay`, over a corpus
 --   ReplayTold               how it ended over files that tell: before its script, with nothing put, or with its script
---   ReplayEnds e i s w       how it may end over any files
+--   IndexEnds own e i s w    how a run that answers a script over an index file may end over any files, by the texts that lines may have of their own
+--   ReplayEnds e i s w       the same of `replay`
 --   ReplayCaused             why it ends: where it failed a count rose; a read that failed before a refused line is no failure
 --   ReplayRan e i s m        a whole run
 --   CanReplay h i s          the script can be answered whole
@@ -25,14 +27,14 @@ use Rattle.std.specs.FinMap as map
 use Rattle.cs_base.specs.outside.Outside.{Held, IsHeld}
 use Rattle.cs_model.specs.Collection.{weights}
 use Rattle.cs_model.specs.Corpus.{corpus, refusal, Corpus}
-use Rattle.cs_model.specs.Outputs.{IsAnswer, script_lines, PutAll, failed_reads, readable_lines}
+use Rattle.cs_model.specs.Outputs.{IsAnswer, OneEach, script_lines, failed_reads}
 use Rattle.cs_top.specs.CommandLine.{Ending, usage, refused, absent, damaged, changed, failed, no_memory, Caused, done, script_refused}
 use Rattle.cs_top.specs.HitForms.{AreDocumentsOf, AtHand, IsAnswerIn}
 use Rattle.cs_top.specs.Filed.{IsFiled}
 use Rattle.cs_top.specs.Import.{IsRefusedAs, form_of}
 use Rattle.cs_top.specs.Met.{Met, Wrote, held_bytes}
-use Rattle.cs_top.specs.PutTexts.{EndsBy}
-use Rattle.cs_top.specs.ScriptEndings.{ScriptEnds, IsReadable}
+use Rattle.cs_top.specs.PutTexts.{EndsBy, EndsOf, IsOwnText, OwnText}
+use Rattle.cs_top.specs.ScriptEndings.{MayPutAll, ScriptEnds, ScriptEndsBy, IsReadable}
 use Rattle.cs_base.specs.outside.Causes.{Rose}
 use Rattle.cs_hub.specs.Streams.{RoseBy}
 use Rattle.cs_model_index.specs.BlockRules.{broken_at}
@@ -117,20 +119,20 @@ ReplayStops no_memory h i s = AreHeld h i s
 ReplayStops failed h i s = Unit {0}
 ReplayStops e h i s = ⊥
 
--- each line is read and has a text, in a reply's place maybe that of a failed read
-abbrev pub IsWholeBut : Corpus → List (ℕ × List ℕ) → List (List ℕ) → Wrote → Type 0
-IsWholeBut k ls ts w = IsReadable ls × PutAll (IsReplayed k) (readable_lines ls) ts w.old w.new
-
 -- Done: each line was answered, and no read failed. A refused line: those before it were answered. Failed: some first lines were; where
 -- out's count didn't rise, and the files' count no more than texts say that a read failed, all of them. It ends in no other way.
 -- Of the texts at most as many say that a read failed as the count rose by, unless that stands at its last value.
+abbrev pub IndexScript : MayPutAll → MayPutAll → Ending → List (ℕ × List ℕ) → ℕ → ℕ → Wrote → Type 0
+IndexScript A R done ls before now w = (ts : List (List ℕ)) × ScriptEndsBy A done ls ts w
+IndexScript A R (script_refused f) ls before now w = (ts : List (List ℕ)) × ScriptEndsBy R (script_refused f) ls ts w × RoseBy (failed_reads ts) before now
+IndexScript A R failed ls before now w =
+    (ts : List (List ℕ)) × ScriptEndsBy R failed ls ts w × RoseBy (failed_reads ts) before now
+    × (¬ Rose w.before w.now → ¬ RoseBy (failed_reads ts + 1) before now → ScriptEndsBy R done ls ts w)
+IndexScript A R e ls before now w = ⊥
+
+-- each line has its answer, or in a reply's place the text of a failed read
 abbrev pub ReplayScript : Corpus → Ending → List (ℕ × List ℕ) → ℕ → ℕ → Wrote → Type 0
-ReplayScript k done ls before now w = (ts : List (List ℕ)) × ScriptEnds (IsAnswer k) done ls ts w
-ReplayScript k (script_refused f) ls before now w = (ts : List (List ℕ)) × ScriptEnds (IsReplayed k) (script_refused f) ls ts w × RoseBy (failed_reads ts) before now
-ReplayScript k failed ls before now w =
-    (ts : List (List ℕ)) × ScriptEnds (IsReplayed k) failed ls ts w × RoseBy (failed_reads ts) before now
-    × (¬ Rose w.before w.now → ¬ RoseBy (failed_reads ts + 1) before now → IsWholeBut k ls ts w)
-ReplayScript k e ls before now w = ⊥
+ReplayScript k = IndexScript (OneEach (IsAnswer k)) (OneEach (IsReplayed k))
 
 -- how it ended over files that tell: before its script, with nothing put, or with its script; the numbers are the files' count before
 -- and after it
@@ -141,13 +143,17 @@ ReplayTold e h i s before now w =
 -- ---- `replay` over any files
 -- how it may end over any files: a name that is said to be absent is one of the two, nothing is put before the script, and with its
 -- script by the texts that were put
+abbrev pub IndexEnds : OwnText → Ending → List ℕ → List ℕ → Wrote → Type 0
+IndexEnds own usage i s w = ⊥
+IndexEnds own (refused r) i s w = ⊥
+IndexEnds own (absent name) i s w = ((name ≡ i) ⊎ (name ≡ s)) × (w.new ≡ w.old)
+IndexEnds own (damaged rule at) i s w = w.new ≡ w.old
+IndexEnds own no_memory i s w = w.new ≡ w.old
+IndexEnds own e i s w = EndsOf own e w
+
+-- hits are shown by their titles
 abbrev pub ReplayEnds : Ending → List ℕ → List ℕ → Wrote → Type 0
-ReplayEnds usage i s w = ⊥
-ReplayEnds (refused r) i s w = ⊥
-ReplayEnds (absent name) i s w = ((name ≡ i) ⊎ (name ≡ s)) × (w.new ≡ w.old)
-ReplayEnds (damaged rule at) i s w = w.new ≡ w.old
-ReplayEnds no_memory i s w = w.new ≡ w.old
-ReplayEnds e i s w = EndsBy Titled e w
+ReplayEnds = IndexEnds (IsOwnText Titled)
 
 -- where it failed one of the counts rose; before a refused line reads may have failed; else both are as they were
 abbrev pub ReplayCaused : Ending → ℕ → ℕ → ℕ → ℕ → Type 0

@@ -19,6 +19,7 @@
 --   merge_ending r               the ending of a run whose index files have the refusal r to be merged, or no memory
 --   of_script s                  the stop of a run whose script stops
 --   stop_ending s, ended r       the ending of a run that stops, and of any run
+--   script_ending r              the ending of a run whose script ended so
 --   ReadsFiles h h' before now r     a call with this answer only read files: what they hold is as it was, and why their count rose
 --   IsAbsence s name             a stop of a file that should be held: its name is said to be absent, or a call failed
 --   IsMissing s f                where a stop says a name to be absent, the file isn't held
@@ -69,6 +70,8 @@ use Rattle.cs_top.specs.declared.lines.ScriptStop.{ScriptStop}
 use Rattle.cs_top.specs.declared.lines.ScriptStop.TheVariants as scripts
 use Rattle.cs_top.specs.declared.said.Said.{Said}
 use Rattle.cs_top.specs.declared.said.Said.TheVariants as said
+use Rattle.cs_top.specs.declared.script.WhatCame.{WhatCame}
+use Rattle.cs_top.specs.declared.script.WhatCame.TheVariants as came
 use Rattle.cs_top.specs.declared.sources.ImportFault.{ImportFault}
 use Rattle.cs_top.specs.declared.sources.ImportFault.TheVariants as imports
 use Rattle.cs_top.specs.declared.sources.SourceFault.{SourceFault}
@@ -198,6 +201,13 @@ pub record ReadsFiles {T : Type 0} (held held' : Option Held) (before now : ℕ)
 abbrev pub of_script : ScriptStop → RunStop
 of_script (scripts.Unread f) = stops.Script f
 of_script scripts.Failed = stops.Failed
+
+-- where each line is answered all is done; a failed read is a failure, and a change has its own ending
+abbrev pub script_ending : Result WhatCame ScriptStop → Ending
+script_ending (Ok came.Answered) = done
+script_ending (Ok came.Read) = failed
+script_ending (Ok came.Changed) = changed
+script_ending (Err s) = stop_ending (of_script s)
 
 -- the name that is said is this one; of a failed call nothing is said, and a run stops there in no other way
 abbrev pub IsAbsence : RunStop → List ℕ → Type 0

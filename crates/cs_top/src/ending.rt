@@ -4,11 +4,12 @@ ghost use Rattle.cs_docs.specs.FaultRefusals.{reason_text};
 ghost use Rattle.cs_merge.specs.Merging.{merge_refusal_of};
 ghost use Rattle.cs_top.specs.CommandLine.{status, line_of, SaysLine};
 ghost use Rattle.cs_top.specs.Met.{wrote};
-ghost use Rattle.cs_top.specs.Views.{collection_ending, ended, merge_ending, of_script, said_text, source_refusal_of, stop_ending};
+ghost use Rattle.cs_top.specs.Views.{collection_ending, ended, merge_ending, of_script, said_text, script_ending, source_refusal_of, stop_ending};
 ghost use Rattle.cs_top.specs.declared.ending.RunStop.{RunStop};
 
 use crate::lines::{ScriptFault, ScriptStop};
 use crate::said::{Said, put_said};
+use crate::script::WhatCame;
 use crate::sources::SourceFault;
 use cs_base::{Failed, Memory, Sink};
 use cs_docs::Reason;
@@ -109,6 +110,18 @@ impl From<ScriptStop> for RunStop<'_> {
             ScriptStop::Unread(fault) => RunStop::Script(fault),
             ScriptStop::Failed => RunStop::Failed,
         }
+    }
+}
+
+/// How a run ends whose script ended so. A failed read and a change are told in their lines, but not all is done.
+pub(crate) fn end_of_run(script: Result<WhatCame, ScriptStop>) -> Result<(), RunStop<'static>>
+    ensures { ended result ≡ script_ending script }
+{
+    match script {
+        Ok(WhatCame::Answered) => Ok(()),
+        Ok(WhatCame::Read) => Err(RunStop::Failed),
+        Ok(WhatCame::Changed) => Err(RunStop::Changed),
+        Err(stop) => Err(RunStop::from(stop)),
     }
 }
 

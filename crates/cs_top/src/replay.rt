@@ -6,10 +6,10 @@ ghost use Rattle.cs_top.specs.ScriptRuns.{ReplayCaused, ReplayEnds, ReplayTold};
 ghost use Rattle.cs_top.specs.Views.{ended};
 
 use crate::answering::IndexFile;
-use crate::ending::RunStop;
+use crate::ending::{RunStop, end_of_run};
 use crate::files::{HeldFile, told_size};
 use crate::opening::open;
-use crate::script::{WhatCame, answer_script};
+use crate::script::answer_script;
 use crate::showing::Showing;
 use cs_base::{Files, Sink};
 use std::alloc::Global;
@@ -38,10 +38,5 @@ pub(crate) fn replay<'a, F: Files, O: Sink>(
         size: script_size,
     };
     let showing = Showing::titled(alloc);
-    match answer_script(&showing, &mut engine, &mut file, files, script, out) {
-        Ok(WhatCame::Answered) => Ok(()),
-        Ok(WhatCame::Read) => Err(RunStop::Failed),
-        Ok(WhatCame::Changed) => Err(RunStop::Changed),
-        Err(stop) => Err(RunStop::from(stop)),
-    }
+    end_of_run(answer_script(&showing, &mut engine, &mut file, files, script, out))
 }

@@ -22,7 +22,7 @@ mod answers;
 mod asking;
 mod outcomes;
 
-use crate::ending::RunStop;
+use crate::ending::{RunStop, end_of_run};
 use crate::files::{HeldFile, told_size};
 use crate::lines::{Place, ScriptStop, WINDOW_BYTES, first_place, read_line};
 use crate::opening::open_held;
@@ -55,12 +55,7 @@ pub(crate) fn live_script<'a, F: Files, O: Sink>(
         name: script,
         size: script_size,
     };
-    match answer_lines(alloc, &mut live, index, files, script, out) {
-        Ok(WhatCame::Answered) => Ok(()),
-        Ok(WhatCame::Read) => Err(RunStop::Failed),
-        Ok(WhatCame::Changed) => Err(RunStop::Changed),
-        Err(stop) => Err(RunStop::from(stop)),
-    }
+    end_of_run(answer_lines(alloc, &mut live, index, files, script, out))
 }
 
 // The index of an index file before the first change, with nothing kept.
