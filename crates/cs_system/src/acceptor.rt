@@ -1,6 +1,7 @@
 //! Who lets connections in.
 ghost use Rattle.std.specs.Prelude.{◌≡◌, ◌≤◌, ◌+◌, ◌-◌, ◌^◌, min, true, false, IsSome};
 ghost use Rattle.cs_system.specs.declared.bounds.TheConstants.{ACCEPT_TRIES};
+ghost use Rattle.cs_system.specs.SystemErrors.{SaysNobody};
 
 use crate::bounds::{ACCEPT_PAUSE, ACCEPT_TRIES};
 use crate::phase::has_passed;
@@ -106,7 +107,10 @@ impl<L: Accept + Drop> Acceptor<L> {
     }
 
     // One who went away before coming in is no failure, nor is that nobody waits.
-    fn note_failure(&mut self, kind: ErrorKind, now: Instant) {
+    fn note_failure(&mut self, kind: ErrorKind, now: Instant)
+        ensures nobody { SaysNobody kind → (self.new.failures ≡ self.old.failures) × (self.new.paused ≡ self.old.paused) }
+        ensures failed { ¬ SaysNobody kind → self.new.failures ≡ min (self.old.failures + 1) (2 ^ 32 - 1) }
+    {
         match kind {
             ErrorKind::WouldBlock => self.is_awaited = false,
             ErrorKind::Interrupted | ErrorKind::ConnectionAborted => {}
