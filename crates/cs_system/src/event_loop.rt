@@ -1,7 +1,9 @@
 //! The loop over what the system reports of a listener and the sockets that it let in.
-ghost use Rattle.std.specs.Prelude.{◌≡◌, ◌↔◌, ℕ, ◌+◌, ◌<◌, true, false, IfOk, IfSome, IsSome, vec_len, vec_capacity};
+ghost use Rattle.std.specs.Prelude.{◌≡◌, ◌↔◌, ℕ, ◌+◌, ◌*◌, ◌<◌, ◌≤◌, true, false, IfOk, IfSome, IsSome, IsSomeAnd, vec_len, vec_capacity};
 ghost use Rattle.std.specs.Net.Addr.{IsLoopbackV4, IsLoopbackV6, MatchIp};
 ghost use Rattle.std.specs.Net.Socket.{socket_ip, socket_port};
+ghost use Rattle.std.specs.Duration.{as_nanos};
+ghost use Rattle.cs_system.specs.declared.bounds.TheConstants.{ACCEPT_PAUSE, SWEEP};
 ghost use Rattle.cs_system.specs.Living.{IsSocketTurn};
 ghost use Rattle.cs_system.specs.Seats.{HasSeat};
 
@@ -126,15 +128,8 @@ impl EventLoop {
 
     // How long may be waited.
     fn timeout(&self, may_admit: bool) -> Option<Duration> {
-        if self.sockets.waiting() > 0 || (may_admit && self.acceptor.is_open()) {
-            Some(Duration::ZERO)
-        } else if self.acceptor.is_paused() {
-            Some(Duration::from_millis(ACCEPT_PAUSE))
-        } else if self.sockets.is_empty() {
-            None
-        } else {
-            Some(Duration::from_millis(SWEEP))
-        }
+        let has_turn = self.sockets.waiting() > 0 || (may_admit && self.acceptor.is_open());
+        longest_wait(has_turn, self.acceptor.is_paused(), self.sockets.is_empty())
     }
 
     // Whether it is tried now to let someone in. Between two that come in, one that is in has its turn.
@@ -199,6 +194,24 @@ impl EventLoop {
             self.sockets.serve_closed();
         }
         Ok(())
+    }
+}
+
+// How long may be waited: not at all where one has its turn now, and without end only where there is nothing to look for.
+fn longest_wait(has_turn: bool, is_paused: bool, is_empty: bool) -> Option<Duration>
+    ensures turn { has_turn ≡ true → IsSomeAnd result (λ d. as_nanos d ≡ 0) }
+    ensures rests { has_turn ≡ false → IfSome result (λ d. 0 < as_nanos d) }
+    ensures paused { is_paused ≡ true → IsSomeAnd result (λ d. as_nanos d ≤ ACCEPT_PAUSE * 1_000_000) }
+    ensures swept { is_empty ≡ false → IsSomeAnd result (λ d. as_nanos d ≤ SWEEP * 1_000_000) }
+{
+    if has_turn {
+        Some(Duration::from_millis(0))
+    } else if is_paused {
+        Some(Duration::from_millis(ACCEPT_PAUSE))
+    } else if is_empty {
+        None
+    } else {
+        Some(Duration::from_millis(SWEEP))
     }
 }
 
