@@ -6,3 +6,4 @@ pub mod Phases
 pub mod Placing
 pub mod Seats
 pub mod SystemErrors
+pub mod Unread
