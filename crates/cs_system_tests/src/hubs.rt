@@ -219,6 +219,21 @@ fn one_that_may_not_come_ends_nobody(rt: HostRuntime) -> Result<(), Fail> {
     Ok(())
 }
 
+#[test]
+fn a_send_that_fails_is_told(rt: HostRuntime) -> Result<(), Fail> {
+    let mut hub = listening(&rt, 1)?;
+    let client = client_of(&rt, &hub, REQUEST)?;
+    let mut into = [0u8; 64];
+    open_first(&mut hub, &mut into)?;
+    let Event::Piece(0, _) = hub.next(&mut into)? else {
+        return Err(Fail::new("no piece"));
+    };
+    hub.send(0, RESPONSE)?;
+    drop(client);
+    same(&rt, &hub.send(0, RESPONSE), &Err(Failed), "no reader");
+    Ok(())
+}
+
 // More bytes than the system takes of a reply that isn't read.
 const LONG: usize = 16_777_216;
 
