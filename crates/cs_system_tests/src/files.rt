@@ -101,7 +101,8 @@ fn first_failing(rt: &HostRuntime, steps: &[Step]) -> Option<usize> {
     None
 }
 
-fn names_in(rt: &HostRuntime, folder: &str) -> io::Result<usize> {
+/// How many names a folder holds.
+pub fn names_in(rt: &HostRuntime, folder: &str) -> io::Result<usize> {
     let mut names = 0usize;
     for entry in fs::read_dir(rt, folder)? {
         let _entry = entry?;

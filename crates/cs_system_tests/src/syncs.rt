@@ -1,5 +1,6 @@
 //! What is handed to the device before a file has its name, and behind that: the system's files, with a count of it.
 use crate::equal::same;
+use crate::files::names_in;
 use cs_base::{Failed, Files};
 use cs_system::DiskFiles;
 use std::alloc::Allocator;
@@ -134,8 +135,9 @@ impl OpenFile for Counted<'_> {
     }
 }
 
-// How a file is finished, how often something is handed to the device until then, and how many bytes have its name behind that.
-type Finished = (Result<(), Failed>, u32, u64);
+// How a file is finished, how often something is handed to the device until then, how many bytes have its name behind that, and how
+// many names there are.
+type Finished = (Result<(), Failed>, u32, u64, usize);
 
 const FOLDER: &str = "complete_sync_test";
 
@@ -156,15 +158,16 @@ fn finished(rt: &HostRuntime, failing: u32) -> Result<Finished, Fail> {
     files.append(NAME, b"new")?;
     let answer = files.finish(NAME);
     let bytes = fs::metadata(rt, NAME)?.len();
+    let names = names_in(rt, FOLDER)?;
     fs::remove_dir_all(rt, FOLDER)?;
-    Ok((answer, syncs.get(), bytes))
+    Ok((answer, syncs.get(), bytes, names))
 }
 
-// The handing that fails, and what comes of it: that of the file leaves the older one, that of the folder the new one.
+// The handing that fails, and what comes of it: that of the file leaves the older one alone, that of the folder the new one.
 const ROWS: &[(u32, Finished)] = &[
-    (0, (Ok(()), 2, 3)),
-    (1, (Err(Failed), 1, 5)),
-    (2, (Err(Failed), 2, 3)),
+    (0, (Ok(()), 2, 3, 1)),
+    (1, (Err(Failed), 1, 5, 1)),
+    (2, (Err(Failed), 2, 3, 1)),
 ];
 
 #[test]
