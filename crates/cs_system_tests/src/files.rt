@@ -3,7 +3,8 @@ use crate::equal::same;
 use crate::weak::Weak;
 use cs_base::{Failed, Files, Sink};
 use cs_system::{DiskFiles, Standard, lend, read_stream};
-use std::fs::{File, OpenFile, OpenOptions};
+use std::fs::{File, OpenFile, OpenOptions, Permissions};
+use std::os::unix::fs::PermissionsExt;
 use std::test::Fail;
 use std::{fs, io};
 
@@ -21,9 +22,11 @@ enum Call {
     Finish(Result<(), Failed>),
     // so many bytes from a place on, at most four, where they are read
     Read(u64, usize, Option<&'static [u8]>),
-    // past the files: it is written, lengthened, given another file's name, or holds this
+    // past the files: it is written, lengthened, given a mode or another file's name, or has this mode, or holds this
     Write(&'static str),
     Lengthen(u64),
+    GiveMode(u32),
+    HasMode(u32),
     Rename(&'static str),
     Holds(&'static str),
 }
@@ -46,6 +49,8 @@ fn gives(
         Call::Read(at, len, want) => reads(files, name, *at, *len, *want),
         Call::Write(text) => fs::write(rt, name, *text).is_ok(),
         Call::Lengthen(len) => lengthen(rt, name, *len).is_ok(),
+        Call::GiveMode(mode) => give_mode(rt, name, *mode).is_ok(),
+        Call::HasMode(mode) => has_mode(rt, name, *mode),
         Call::Rename(to) => fs::rename(rt, name, *to).is_ok(),
         Call::Holds(text) => holds(rt, name, text),
     }
@@ -69,6 +74,17 @@ fn reads(
 fn holds(rt: &HostRuntime, name: &str, text: &str) -> bool {
     match fs::read_to_string(rt, name) {
         Ok(found) => found.as_str() == text,
+        Err(_) => false,
+    }
+}
+
+fn give_mode(rt: &HostRuntime, name: &str, mode: u32) -> io::Result<()> {
+    fs::set_permissions(rt, name, Permissions::from_mode(mode))
+}
+
+fn has_mode(rt: &HostRuntime, name: &str, mode: u32) -> bool {
+    match fs::metadata(rt, name) {
+        Ok(found) => found.permissions().mode() & 0o777 == mode,
         Err(_) => false,
     }
 }
@@ -167,7 +183,8 @@ const SECOND: &str = "complete_turns_test/b";
 
 const THIRD: &str = "complete_turns_test/c";
 
-// A file is that file though its name is another one's, also behind a read that failed, and though others were read.
+// A file is that file though its name is another one's, also behind a read that failed, and though others were read. One that
+// takes a name has the mode of the file that had it.
 const BY_TURNS: &[Step] = &[
     (FIRST, Call::Write("kept")),
     (FIRST, Call::Size(Ok(Some(4)))),
@@ -180,9 +197,11 @@ const BY_TURNS: &[Step] = &[
     (THIRD, Call::Write("third")),
     (THIRD, Call::Read(0, 4, Some(b"thir"))),
     (FIRST, Call::Read(0, 4, Some(b"kept"))),
+    (FIRST, Call::GiveMode(0o604)),
     (FIRST, Call::Create(Ok(()))),
     (FIRST, Call::Read(0, 4, None)),
     (FIRST, Call::Finish(Ok(()))),
+    (FIRST, Call::HasMode(0o604)),
     (FIRST, Call::Holds("")),
 ];
 
