@@ -3,10 +3,10 @@ use crate::equal::same;
 use crate::weak::Weak;
 use cs_base::{Failed, Files, Sink};
 use cs_system::{DiskFiles, Standard, lend, read_stream};
-use std::fs::{File, OpenFile, OpenOptions, Permissions};
+use std::fs::{self, File, OpenFile, OpenOptions, Permissions};
+use std::io::{self, BufWriter};
 use std::os::unix::fs::PermissionsExt;
 use std::test::Fail;
-use std::{fs, io};
 
 // Makes a folder that holds nothing.
 fn make_empty(rt: &HostRuntime, folder: &str) -> io::Result<()> {
@@ -252,7 +252,7 @@ fn a_sink_hands_on_all_bytes_or_fails(rt: HostRuntime) -> Result<(), Fail> {
     const FOLDER: &str = "complete_sink_test";
     const NAME: &str = "complete_sink_test/a";
     make_empty(&rt, FOLDER)?;
-    let mut sink = Standard::new(File::create(&rt, NAME)?);
+    let mut sink = Standard::new(BufWriter::new(rt.alloc(), File::create(&rt, NAME)?)?);
     sink.put(b"one line\n")?;
     sink.put(b"")?;
     let written = fs::read_to_string(&rt, NAME)?;
