@@ -5,31 +5,16 @@
 --   stops_there     a line whose answer wasn't put whole ends the script
 --   line_ok, line_err        the same of the result of putting it
 --   said_came       what came of it, as the result of putting it says
-use Rattle.std.proofs.Common.{◌≡◌, ◌≢◌, ◌==◌, ◌∙◌, ℕ, ◌≤◌, true, false, List, [], ◌∷◌, ◌++◌, length, inl, inr, refl, sym, ap, subst, Vec, Global}
-use Rattle.std.specs.Prelude.{Option, Some, None, is_some, Result, Ok, Err, OnOk, OnErr, IfOk, IfErr}
-use Rattle.std.specs.Result.{result_ok}
-use Rattle.cs_base.specs.declared.content.query.Query.{Query}
-use Rattle.cs_base.specs.declared.memory.Memory.{Memory}
-use Rattle.cs_engine.specs.Asking.{BreaksIndex}
-use Rattle.cs_file.specs.Indexes.{IndexView}
-use Rattle.cs_http.specs.Refusing.{IsCause}
-use Rattle.cs_json.specs.FaultTexts.{fault_text}
-use Rattle.cs_json.specs.declared.fault.Fault.TheVariants as faults
-use Rattle.cs_query.specs.declared.request.ReqFault.{ReqFault}
-use Rattle.cs_query.specs.declared.request.ReqFault.TheVariants as causes
+use Rattle.std.proofs.Common.{◌≡◌, ◌≢◌, ◌==◌, ℕ, ◌≤◌, false, List, [], ◌∷◌, ◌++◌, length, inl, inr, refl, sym, subst}
+use Rattle.std.specs.Prelude.{Option, None, Result, Ok, Err, OnOk, OnErr, IfOk, IfErr}
 use Rattle.cs_base.specs.outside.Causes.{Rose}
 use Rattle.cs_base.specs.outside.Outside.{Grew, GrewByPrefix}
 use Rattle.cs_model.specs.Corpus.{Corpus}
-use Rattle.cs_model.specs.Faults.{changed_text}
 use Rattle.cs_model.specs.Outputs.{MayPut, line_fault, memory_text, read_text}
-use Rattle.cs_model.specs.Parameters.{request_of, request_refusal}
-use Rattle.cs_model.specs.Replies.{Reply}
-use Rattle.cs_model.specs.Requests.{Request, reply_of}
 use Rattle.cs_top.specs.Answering.{CameCounts, Costs, FileView, HasText, MayAnswer, came_of_answer, line_bytes}
 use Rattle.cs_top.specs.CommandLine.{failed, CausedBy}
-use Rattle.cs_top.specs.HitForms.{AtHand, form_by, shown_reply}
+use Rattle.cs_top.specs.HitForms.{AtHand}
 use Rattle.cs_top.specs.Met.{Wrote}
-use Rattle.cs_top.specs.PutTexts.{HasTextBy, IsChangeLine}
 use Rattle.cs_top.specs.ScriptEndings.{Passes, StopsAt}
 use Rattle.cs_top.specs.Views.{of_script, stop_ending}
 use Rattle.cs_top.specs.declared.lines.ScriptStop.{ScriptStop}
@@ -38,10 +23,8 @@ use Rattle.cs_top.specs.declared.script.WhatCame.{WhatCame}
 use Rattle.cs_top.specs.declared.script.WhatCame.TheVariants as came
 use Rattle.cs_top.specs.declared.script.answers.Answer.{Answer}
 use Rattle.cs_top.specs.declared.script.answers.Answer.TheVariants as answers
-use Rattle.cs_top.specs.declared.words.HitForm.{HitForm}
-use Rattle.cs_top.proofs.LineTexts.{refused_own}
-use Rattle.cs_top.proofs.ShownLemmas.{memory_shown, refused_shown, reply_in, reply_shown}
-use Rattle.cs_top.proofs.TextsApart.{memory_apart, own_unread, replied_apart}
+use Rattle.cs_top.proofs.ShownLemmas.{memory_shown}
+use Rattle.cs_top.proofs.TextsApart.{memory_apart}
 
 plain_costs : (n m : ℕ) (t : List ℕ) → n ≤ m → t ≢ read_text → Costs came.Answered n m t
 plain_costs n m t later other = record { later = later; read = λ e. absurd (other e); clean = λ h. other; unchanged = λ e. cc e }

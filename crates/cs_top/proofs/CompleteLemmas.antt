@@ -4,15 +4,17 @@ use Rattle.std.specs.Prelude.{Option, Some, None}
 use Rattle.std.specs.FinMap as map
 use Rattle.cs_base.specs.outside.Causes.{Rose}
 use Rattle.cs_base.specs.outside.Outside.{Held, File, IsHeld}
-use Rattle.cs_model.specs.Outputs.{MayPut, script_lines}
+use Rattle.cs_model.specs.Corpus.{Corpus}
+use Rattle.cs_model.specs.Outputs.{IsAnswer, MayPut, OneEach, failed_reads, script_lines}
 use Rattle.cs_model_index.specs.BlockRules.{broken_at}
 use Rattle.cs_model_index.specs.Images.{Image}
-use Rattle.cs_model_index.specs.Sections.{image_of}
+use Rattle.cs_model_index.specs.Sections.{file_corpus, image_of}
 use Rattle.cs_top.specs.ScriptRuns.{AskStops, AskTold, CanAsk, CanReplay, IndexScript, ReplayCaused, ReplayStops, ReplayTold}
 use Rattle.cs_top.specs.Build.{BuildStops, BuildTold, BuildWrites, CanBuild}
 use Rattle.cs_top.specs.CommandLine.{Command, build, ask, replay, serve, trial, upgrade, merge, live, Ending, done, usage, refused, damaged, absent, failed, no_memory, script_refused, changed, merge_refused, status, Caused, CausedBy}
 use Rattle.cs_top.specs.Import.{IsAcceptedAs, IsRefusedAs, Refusal, of_collection, of_csv, of_jsonl}
-use Rattle.cs_top.specs.LiveRuns.{LiveTold}
+use Rattle.cs_top.specs.Answering.{IsReplayed}
+use Rattle.cs_top.specs.LiveRuns.{IsToldCourse, LiveTold}
 use Rattle.cs_top.specs.Merge.{CanMerge, MergeStops, MergeTold}
 use Rattle.cs_top.specs.Met.{Listened, Met, Wrote, held_bytes}
 use Rattle.cs_top.specs.CommandRuns.{Completes, Ran}
@@ -135,11 +137,15 @@ played A R (merge_refused r) ls before now w can a calm = absurd a
 
 replay_told : (e : Ending) (h : Held) (i s : List ℕ) (before now : ℕ) (w : Wrote) → ReplayTold e h i s before now w → CanReplay h i s → (e ≡ failed → ⊥) → IsWell e
 replay_told e h i s before now w (inl a) can calm = unplayed e h i s can a.0 calm
-replay_told e h i s before now w (inr a) can calm = played _ _ e (script_lines (held_bytes h s)) before now w can.1 a.1 calm
+replay_told e h i s before now w (inr a) can calm =
+    let k : Corpus = file_corpus (held_bytes h i) in
+    played (OneEach (IsAnswer k)) (OneEach (IsReplayed k)) e (script_lines (held_bytes h s)) before now w can.1 a.1 calm
 
 live_told : (e : Ending) (h : Held) (i s : List ℕ) (before now : ℕ) (w : Wrote) → LiveTold e h i s before now w → CanReplay h i s → (e ≡ failed → ⊥) → IsWell e
 live_told e h i s before now w (inl a) can calm = unplayed e h i s can a.0 calm
-live_told e h i s before now w (inr a) can calm = played _ _ e (script_lines (held_bytes h s)) before now w can.1 a.1 calm
+live_told e h i s before now w (inr a) can calm =
+    let b = held_bytes h i in
+    played (λ ls ts. IsToldCourse b ls ts × (failed_reads ts ≡ 0)) (IsToldCourse b) e (script_lines (held_bytes h s)) before now w can.1 a.1 calm
 
 no_failed_replay : (e : Ending) (fb fn ob on : ℕ) → ReplayCaused e fb fn ob on → (Rose fb fn → ⊥) → (Rose ob on → ⊥) → e ≡ failed → ⊥
 no_failed_replay e fb fn ob on cause files out is = elim (subst (λ x. ReplayCaused x fb fn ob on) is cause).0 [ inl r ↦ files r | inr r ↦ out r ]

@@ -3,7 +3,7 @@
 --   live_start                       before the first line
 --   live_goes_on, live_ends_here, live_ends_done     behind a line, at one at which it ends, and at the end of the file
 --   live_ended                       how its script ended
-use Rattle.std.proofs.Common.{◌≡◌, ℕ, suc, ◌+◌, ◌≤◌, List, [], ◌∷◌, ◌++◌, length, inl, inr, refl, sym, ap, subst, arith}
+use Rattle.std.proofs.Common.{◌≡◌, ℕ, suc, ◌≤◌, List, [], ◌∷◌, ◌++◌, length, inl, inr, refl, sym, ap, subst, arith}
 use Rattle.std.specs.Prelude.{Option, Result, IfOk, IfErr}
 use Rattle.std.proofs.lemmas.List.Elements.{All-nil, All-push}
 use Rattle.cs_base.specs.outside.Causes.{Rose}

@@ -40,7 +40,7 @@ use Rattle.cs_top.specs.declared.lines.ScriptStop.{ScriptStop}
 use Rattle.cs_top.specs.declared.lines.ScriptStop.TheVariants as scripts
 use Rattle.cs_top.specs.declared.live.outcomes.Outcome.{Outcome}
 use Rattle.cs_top.specs.declared.script.WhatCame.{WhatCame}
-use Rattle.cs_top.specs.declared.script.WhatCame.TheVariants.{Answered, Read, Changed}
+use Rattle.cs_top.specs.declared.script.WhatCame.TheVariants.{Answered}
 use Rattle.cs_top.specs.declared.script.answers.Answer.{Answer}
 use Rattle.cs_top.specs.declared.words.HitForm.TheVariants.{Titled}
 use Rattle.cs_top.proofs.LineTexts.{refused_own, refused_text, request_text}

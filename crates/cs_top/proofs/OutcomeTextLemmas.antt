@@ -9,10 +9,9 @@ use Rattle.std.specs.Prelude.{Option, Some, None, is_some, Result, Ok, Err, IfOk
 use Rattle.std.specs.Result.{result_ok}
 use Rattle.cs_base.specs.declared.memory.Memory.{Memory}
 use Rattle.cs_base.specs.outside.Outside.{Held}
-use Rattle.cs_engine.specs.Asking.{BreaksIndex}
 use Rattle.cs_engine.specs.Keeping.{EngineView}
-use Rattle.cs_file.specs.Indexes.{CausedReads, IndexView}
-use Rattle.cs_hub.specs.Outcomes.{IsOutcome, IsRightOutcome, TellsChange, fails_read}
+use Rattle.cs_file.specs.Indexes.{CausedReads}
+use Rattle.cs_hub.specs.Outcomes.{IsOutcome, IsRightOutcome, fails_read}
 use Rattle.cs_hub.specs.declared.outcomes.RequestOutcome.{RequestOutcome}
 use Rattle.cs_hub.specs.declared.outcomes.RequestOutcome.TheVariants as outcomes
 use Rattle.cs_json.specs.FaultTexts.{fault_text}
@@ -20,13 +19,12 @@ use Rattle.cs_json.specs.declared.fault.Fault.TheVariants as faults
 use Rattle.cs_model.specs.Corpus.{Corpus}
 use Rattle.cs_model.specs.Faults.{changed_text}
 use Rattle.cs_model.specs.Outputs.{memory_text, read_text}
-use Rattle.cs_model.specs.Parameters.{request_refusal}
 use Rattle.cs_model.specs.Requests.{reply_of}
 use Rattle.cs_query.specs.RequestView.{asked}
 use Rattle.cs_top.specs.Answering.{AnswersOver, CameCounts, CameOver, FileView, HasText, MayAnswer, came_of_answer}
 use Rattle.cs_top.specs.HitForms.{AtHand, IsReplyIn, form_by, shown_reply}
 use Rattle.cs_top.specs.OutcomeTexts.{IsAnswerBy, MayTell, came_of_outcome}
-use Rattle.cs_top.specs.PutTexts.{HasTextBy, IsChangeLine, IsOwnText, TextBy}
+use Rattle.cs_top.specs.PutTexts.{HasTextBy, IsOwnText, TextBy}
 use Rattle.cs_top.specs.declared.script.WhatCame.TheVariants as came
 use Rattle.cs_top.specs.declared.script.answers.Answer.{Answer}
 use Rattle.cs_top.specs.declared.script.answers.Answer.TheVariants as answers

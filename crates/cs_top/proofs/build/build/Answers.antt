@@ -1,15 +1,11 @@
-use Rattle.std.proofs.Common.{◌≡◌, ◌∙◌, ℕ, List, inl, inr, subst, rules}
-use Rattle.std.specs.Prelude.{Option, Some}
+use Rattle.std.proofs.Common.{◌≡◌, ◌∙◌, inl, inr, subst, rules}
+use Rattle.std.specs.Prelude.{Some}
 use Rattle.std.specs.FinMap as map
 use Rattle.cs_base.specs.outside.Outside.{Held, IsHeld, Sets, whole_file}
-use Rattle.cs_model_index.specs.Images.{Image}
 use Rattle.cs_model_index.specs.Layout.{file}
 use Rattle.cs_top.specs.Build.{BuildEnds, BuildStops, BuildTold, HasImage, IsBegun}
 use Rattle.cs_top.specs.Met.{held_bytes}
-use Rattle.cs_top.specs.Views.{IsDevice, stop_ending}
-use Rattle.cs_top.specs.declared.ending.RunStop.{RunStop}
-use Rattle.cs_top.specs.declared.ending.RunStop.TheVariants as stops
-use Rattle.cs_top.specs.declared.words.Form.{Form}
+use Rattle.cs_top.specs.Views.{stop_ending}
 use Rattle.cs_top.proofs.BuildLemmas.{cut_by}
 use Rattle.cs_top.proofs.ScriptLemmas.{held_by}
 use Rattle.cs_top.proofs.StopLemmas.{caused_by, source_by}

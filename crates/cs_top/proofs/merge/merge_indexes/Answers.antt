@@ -1,9 +1,7 @@
-use Rattle.std.proofs.Common.{◌≡◌, ◌∙◌, inl, inr, rules, subst}
-use Rattle.std.specs.Prelude.{Some}
+use Rattle.std.proofs.Common.{◌∙◌, inl, inr, rules, subst}
 use Rattle.cs_base.specs.outside.Outside.{Sets, whole_file}
 use Rattle.cs_model_index.specs.Layout.{file}
 use Rattle.cs_top.specs.Build.{BuildWrites, IsBegun}
-use Rattle.cs_top.specs.CommandLine.{done}
 use Rattle.cs_top.specs.Merge.{MergeTold}
 use Rattle.cs_top.specs.Views.{stop_ending}
 use Rattle.cs_top.proofs.BuildLemmas.{cut_by}

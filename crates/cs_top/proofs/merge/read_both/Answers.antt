@@ -1,13 +1,10 @@
 use Rattle.std.proofs.Common.{◌≡◌, ◌∙◌, inl, inr, refl, rules}
-use Rattle.std.specs.Prelude.{Some}
-use Rattle.cs_base.specs.outside.Outside.{Held}
 use Rattle.cs_top.specs.Merge.{MergeEnds, MergeStops}
 use Rattle.cs_top.specs.Met.{held_bytes}
 use Rattle.cs_top.specs.ScriptRuns.{AreHeld}
 use Rattle.cs_top.specs.Views.{stop_ending}
 use Rattle.cs_top.proofs.ScriptLemmas.{held_by}
 use Rattle.cs_top.proofs.StopLemmas.{absence_by, told_by, whole_by}
-use Rattle.cs_top.proofs.merge.read_both.Given as given
 use Rattle.cs_top.proofs.merge.read_both.Goals as goal
 
 pub returns-in_err-size-clause-ends : goal.returns-in_err-size-clause-ends

@@ -1,5 +1,5 @@
 use Rattle.std.proofs.Common.{◌≡◌, ◌∙◌, inl, inr, refl, rules, subst}
-use Rattle.std.specs.Prelude.{Option, Some}
+use Rattle.std.specs.Prelude.{Some}
 use Rattle.std.specs.FinMap as map
 use Rattle.cs_base.specs.outside.Outside.{Held, IsHeld, Sets, whole_file}
 use Rattle.cs_model_index.specs.Images.{Image}
