@@ -5,9 +5,11 @@
 
 It builds the index of COLLECTION, types some words of its titles letter by letter, and has PROGRAM answer them as `replay` and as `live`:
 with nothing changed, and behind 1,000 documents of 100 words added, or 1,000 deleted, or both. The first keystroke behind additions brings
-their rows in, and is measured by itself. Then it adds documents behind others. Each figure is a difference of processor time between a
-script and the same one without what is measured, each the least of RUNS runs (5 where it is left out).
+their rows in, and is measured by itself. Each of these figures is a difference of processor time between a script and the same one without
+what is measured, each the least of RUNS runs (5 where it is left out). Then it adds 110,000 documents, and reads the processor time as their
+lines come out: rows are brought in once for many additions, so that a single difference says little of one.
 """
+import os
 import pathlib
 import random
 import re
@@ -16,7 +18,7 @@ import subprocess
 import sys
 import tempfile
 
-WORDS, CHANGES, MANY, TYPED = 100, 1_000, 100_000, 200
+WORDS, CHANGES, MANY, STEP, TYPED = 100, 1_000, 110_000, 10_000, 200
 
 
 def processor_time(words):
@@ -43,6 +45,23 @@ def typed(dice, titles):
             yield f"q={front}{word[:letters]}\n"
 
 
+def taken_by(process):
+    """Milliseconds of a processor that a process has taken so far."""
+    fields = pathlib.Path(f"/proc/{process}/stat").read_text().rsplit(")", 1)[1].split()
+    return 1_000 * (int(fields[11]) + int(fields[12])) / os.sysconf("SC_CLK_TCK")
+
+
+def by_steps(words):
+    """What each STEP lines of a run take of a processor, in milliseconds a line."""
+    with subprocess.Popen(words, stdout=subprocess.PIPE) as run:
+        before = taken_by(run.pid)
+        for number, _ in enumerate(run.stdout, 1):
+            if number % STEP == 0:
+                now = taken_by(run.pid)
+                yield number, (now - before) / STEP
+                before = now
+
+
 def main():
     program, collection = sys.argv[1:3]
     runs = int(sys.argv[3]) if len(sys.argv) > 3 else 5
@@ -50,7 +69,7 @@ def main():
     lines = pathlib.Path(collection).read_text("utf-8").split("\n")
     known = sorted({word for line in dice.sample(lines, min(len(lines), 2_000)) for word in re.findall(r"[a-z]+", line.lower())})
     keys = list(typed(dice, [line.split("\t")[0] for line in lines]))
-    some, many = list(additions(dice, known, 2 * CHANGES)), list(additions(dice, known, MANY + 10 * CHANGES))
+    some, many = list(additions(dice, known, 2 * CHANGES)), list(additions(dice, known, MANY))
     gone = [f"del {number}\n" for number in dice.sample(range(len(lines)), min(CHANGES, len(lines) // 2))]
     changed = some[:CHANGES] + gone
     with tempfile.TemporaryDirectory() as made:
@@ -73,7 +92,9 @@ def main():
             times = least("live", before + first + keys, before + first) / len(keys) / alone
             print(f"behind {CHANGES} {name}: {times:.2f} times, and the first one {least('live', before + first, before):.0f} ms more")
         print(f"an addition behind {CHANGES}: {least('live', some, some[:CHANGES]) / CHANGES:.3f} ms")
-        print(f"an addition behind {MANY}: {least('live', many, many[:MANY]) / 10 / CHANGES:.3f} ms")
+        (folder / "many").write_text("".join(many))
+        for number, each in by_steps([program, "live", folder / "index", folder / "many"]):
+            print(f"an addition, the {STEP} up to {number}: {each:.3f} ms")
         print(f"a deletion behind {CHANGES} additions: {least('live', changed, some[:CHANGES]) / len(gone):.3f} ms")
 
 
