@@ -1,7 +1,7 @@
-"""What the program of this repository has beside its first five commands, in one place.
+"""What there is beside the commands build, ask, replay, serve and trial, and what of it the program has: today all.
 
-The reference knows all that is named here. It does what the program does: a feature counts where its name is in HAS. When the
-program gets one, its name goes into `HERE`. To try what is to come, name it before a run, or `all`:
+The reference knows all that is named here. It does what the program does: a feature counts where its name is in HAS. One that the
+reference gets first stands in `ALL` alone until the program has it, and then in `HERE` too. To try it before, name it, or `all`:
 
     COMPLETE_HAS=all reference/try.py reference/complete.py merge 200
 """

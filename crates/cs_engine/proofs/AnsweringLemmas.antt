@@ -30,15 +30,15 @@ use Rattle.cs_model_kept.specs.Entries as kept
 use Rattle.cs_model_kept.proofs.EntryLemmas.{listed_base}
 use Rattle.cs_tables.specs.declared.tables.Completion.{Completion as Numbered}
 use Rattle.cs_tables.specs.TableListings.{post_table}
-use Rattle.cs_engine.specs.IndexReading.{AreWithin, IsWithin, HasRows}
-use Rattle.cs_engine.specs.Sources.{IsSource, SourceView, seen}
-use Rattle.cs_engine.specs.Steps.{AreFound, IsBaseOf, IsHitOf}
+use Rattle.cs_rows.specs.IndexReading.{AreWithin, IsWithin, HasRows}
+use Rattle.cs_rows.specs.Sources.{IsSource, SourceView, seen}
+use Rattle.cs_rows.specs.Steps.{AreFound, IsBaseOf, IsHitOf}
 use Rattle.cs_model_index.specs.Numbered.{rows_at}
-use Rattle.cs_engine.specs.Stocked.{Stock, corpus_in, base_docs, stock_docs, facet_at, base_hits, named_rows, present_docs, shown_at, title_at}
-use Rattle.cs_engine.proofs.FoundLemmas.{docs_rise}
-use Rattle.cs_engine.proofs.ReplyLemmas.{facet_kept, first_there, reply_made, table_total, words_shown}
-use Rattle.cs_engine.proofs.PartSteps.{listed_in, listed_told}
-use Rattle.cs_engine.proofs.PresentLemmas.{docs_ascend, docs_below}
+use Rattle.cs_rows.specs.Stocked.{Stock, corpus_in, base_docs, stock_docs, facet_at, base_hits, named_rows, present_docs, shown_at, title_at}
+use Rattle.cs_rows.proofs.FoundLemmas.{docs_rise}
+use Rattle.cs_rows.proofs.ReplyLemmas.{facet_kept, first_there, reply_made, table_total, words_shown}
+use Rattle.cs_rows.proofs.PartSteps.{listed_in, listed_told}
+use Rattle.cs_rows.proofs.PresentLemmas.{docs_ascend, docs_below}
 
 module _ (v : SourceView) (is : IsSource v) where
   pub few_docs : (posts : List Post) → AreWithin (seen v) posts → All (λ p. p.doc < 2 ^ 20) posts

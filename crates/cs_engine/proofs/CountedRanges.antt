@@ -9,7 +9,7 @@ use Rattle.cs_base.specs.declared.content.limits.TheConstants.{MAX_PARTS}
 use Rattle.cs_base.specs.declared.content.scores.TheConstants.{MAX_ROW_SCORE}
 use Rattle.cs_file.specs.Indexes.{IndexView}
 use Rattle.cs_engine.specs.HeldRanges.{FitsRange, HoldsMore}
-use Rattle.cs_engine.specs.Steps.{IsBaseOf}
+use Rattle.cs_rows.specs.Steps.{IsBaseOf}
 use Rattle.cs_engine.specs.declared.finding.CountedWords.{CountedWords}
 use Rattle.cs_engine.specs.declared.held.HeldRange.{HeldRange}
 use Rattle.cs_engine.specs.declared.held.Holding.TheVariants as holding

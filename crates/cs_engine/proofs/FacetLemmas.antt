@@ -20,11 +20,11 @@ use Rattle.cs_base.proofs.MembersLemmas.{all_then}
 use Rattle.cs_file.specs.Indexes.{IndexView}
 use Rattle.cs_meet.specs.Filters.{is_of_doc, keep_docs}
 use Rattle.cs_tables.specs.WordCounts.{AreCountable, HasCounted, WordCountsView, chosen, is_chosen}
-use Rattle.cs_engine.specs.Counting.{AreListed, in_listed}
-use Rattle.cs_engine.specs.IndexReading.{AreWithin, IsWithin}
-use Rattle.cs_engine.specs.Stocked.{base_docs, is_between, present_docs}
-use Rattle.cs_engine.proofs.CountingLemmas.{kept_listed}
-use Rattle.cs_engine.proofs.RowsInRange.{kept_within}
+use Rattle.cs_rows.specs.Counting.{AreListed, in_listed}
+use Rattle.cs_rows.specs.IndexReading.{AreWithin, IsWithin}
+use Rattle.cs_rows.specs.Stocked.{base_docs, is_between, present_docs}
+use Rattle.cs_rows.proofs.CountingLemmas.{kept_listed}
+use Rattle.cs_rows.proofs.RowsInRange.{kept_within}
 
 -- ---- which rows are counted
 all_pass : (t : Post → Bool) (posts : List Post) → All (λ p. t p ≡ true) posts → filter t posts ≡ posts

@@ -52,12 +52,11 @@ use Rattle.cs_model_kept.proofs.NarrowLemmas.{entries_narrow}
 use Rattle.cs_model_kept.proofs.PlanLemmas.{plans_serve}
 use Rattle.cs_model_kept.proofs.ShorterQueries.{shorter_stays}
 use Rattle.cs_model_kept.proofs.TypedLemmas.{none_some}
-use Rattle.cs_engine.specs.Keeping.{FitsQuery, HoldsGood, IsEntryOver, IsKeptBehind, IsKeptEntry, KeepsFitting, became, entries_behind, entry_with, fronted}
-use Rattle.cs_engine.specs.Keeping.{note_plan}
-use Rattle.cs_engine.specs.Sources.{IsSource, SourceView, seen}
-use Rattle.cs_engine.specs.Steps.{EntryFits, end_positive, is_in_base, last_is_positive}
-use Rattle.cs_engine.specs.Stocked.{corpus_in}
-use Rattle.cs_engine.proofs.RowsInRange.{kept_within}
+use Rattle.cs_engine.specs.Keeping.{FitsQuery, HoldsGood, IsEntryOver, IsKeptBehind, IsKeptEntry, KeepsFitting, became, entries_behind, fronted, note_plan}
+use Rattle.cs_rows.specs.Steps.{entry_with, EntryFits, end_positive, is_in_base, last_is_positive}
+use Rattle.cs_rows.specs.Sources.{IsSource, SourceView, seen}
+use Rattle.cs_rows.specs.Stocked.{corpus_in}
+use Rattle.cs_rows.proofs.RowsInRange.{kept_within}
 
 -- ---- what is found
 unsome : {X : Type 0} (a b : X) → Some a ≡ Some b → a ≡ b

@@ -29,9 +29,10 @@ use Rattle.cs_model_kept.specs.Entries.{EntryOf}
 use Rattle.cs_model_kept.specs.KeptList.{KeptOf, plan_by, used_entry}
 use Rattle.cs_model_kept.specs.KeptListLaws.{before_last}
 use Rattle.cs_engine.specs.Asking.{filed_titles}
-use Rattle.cs_engine.specs.Keeping.{AnswersRight, AreGoodFor, EngineView, FitsQuery, HoldsGood, IsAfterFor, IsEntryOver, IsPlanned, engine_with, entry_with}
-use Rattle.cs_engine.specs.IndexReading.{AreWithin}
-use Rattle.cs_engine.specs.Stocked.{Stock}
+use Rattle.cs_engine.specs.Keeping.{AnswersRight, AreGoodFor, EngineView, FitsQuery, HoldsGood, IsAfterFor, IsEntryOver, IsPlanned, engine_with}
+use Rattle.cs_rows.specs.Steps.{entry_with}
+use Rattle.cs_rows.specs.IndexReading.{AreWithin}
+use Rattle.cs_rows.specs.Stocked.{Stock}
 use Rattle.cs_file.specs.declared.fault.FetchFault.{FetchFault}
 use Rattle.cs_engine.specs.declared.held.HeldRange.{HeldRange}
 use Rattle.cs_engine.specs.declared.note.Note.{Note}

@@ -20,20 +20,20 @@ use Rattle.cs_tables.specs.TableListings.{post_table}
 use Rattle.cs_tables.specs.declared.tables.Completion.{Completion}
 use Rattle.cs_tables.specs.declared.tables.Table.{Table}
 use Rattle.cs_tables.specs.WordCounts.{AreCountable, HasCounted, WordCountsView}
-use Rattle.cs_engine.specs.Blockwise.{HasFound}
-use Rattle.cs_engine.specs.Counting.{AreListed, in_listed}
-use Rattle.cs_engine.specs.Keeping.{FitsQuery, IsEntryOver, entry_with}
+use Rattle.cs_rows.specs.Blockwise.{HasFound}
+use Rattle.cs_rows.specs.Counting.{AreListed, in_listed}
+use Rattle.cs_engine.specs.Keeping.{FitsQuery, IsEntryOver}
+use Rattle.cs_rows.specs.Steps.{entry_with, EntryFits, last_is_positive}
 use Rattle.cs_engine.specs.Loose.{AreCountsFor, AreLastWords, IsEntryByWords, IsTableFor}
-use Rattle.cs_engine.specs.IndexReading.{AreWithin}
-use Rattle.cs_engine.specs.Sources.{IsSource, SourceView, seen}
-use Rattle.cs_engine.specs.Steps.{EntryFits, last_is_positive}
-use Rattle.cs_engine.specs.Stocked.{corpus_in, is_between, base_posts}
-use Rattle.cs_engine.proofs.OverSources.{source_within}
+use Rattle.cs_rows.specs.IndexReading.{AreWithin}
+use Rattle.cs_rows.specs.Sources.{IsSource, SourceView, seen}
+use Rattle.cs_rows.specs.Stocked.{corpus_in, is_between, base_posts}
+use Rattle.cs_rows.proofs.OverSources.{source_within}
 use Rattle.cs_engine.proofs.KeepingLemmas.{fresh_is}
-use Rattle.cs_engine.proofs.PartSteps.{in_base_within}
-use Rattle.cs_engine.proofs.PlainParts.{listed_entry, listed_fits}
+use Rattle.cs_rows.proofs.PartSteps.{in_base_within}
+use Rattle.cs_rows.proofs.PlainParts.{listed_entry, listed_fits}
 use Rattle.cs_engine.proofs.PlansLemmas.{found_by_entry}
-use Rattle.cs_engine.proofs.RowsInRange.{kept_within}
+use Rattle.cs_rows.proofs.RowsInRange.{kept_within}
 
 large_true : (m n : ℕ) → m < n → nat_lt m n ≡ true
 large_true m n lt = grind (arith, nat_tests)

@@ -39,19 +39,18 @@ use Rattle.cs_model_kept.proofs.EntryLemmas.{parts_read}
 use Rattle.cs_model_kept.proofs.PlanLemmas.{plans_are_held}
 use Rattle.cs_rank.specs.DocScores.{IsBase}
 use Rattle.cs_vocab.specs.Ranges.{IsRange}
-use Rattle.cs_engine.specs.Asking.{division}
-use Rattle.cs_engine.specs.Keeping.{FitsQuery, IsEntryOver, IsPlanned, entry_with}
+use Rattle.cs_rows.specs.IndexReading.{division, AreWithin, IsWithin}
+use Rattle.cs_engine.specs.Keeping.{FitsQuery, IsEntryOver, IsPlanned}
+use Rattle.cs_rows.specs.Steps.{entry_with, AreFound, AreHitsOver, EntryFits, IsBaseOf, IsStep, end_positive, last_is_positive, most, posts_hits}
 use Rattle.cs_engine.specs.Loose.{IsEntryByWords}
-use Rattle.cs_engine.specs.Plain.{AreWordsOf}
-use Rattle.cs_engine.specs.IndexReading.{AreWithin, IsWithin}
-use Rattle.cs_engine.specs.Skipping.{hit_of_last, hit_of_part}
-use Rattle.cs_engine.specs.Sources.{IsSource, SourceView, seen}
-use Rattle.cs_engine.specs.Steps.{AreFound, AreHitsOver, EntryFits, IsBaseOf, IsStep, end_positive, last_is_positive, most, posts_hits}
-use Rattle.cs_engine.specs.Stocked.{corpus_in, stock_docs, is_between, base_posts}
-use Rattle.cs_engine.proofs.EvaluationLemmas.{ends_read, entry_begins, entry_by_hits, entry_ends, entry_unrolled, hits_by, met_query-is, positive_more}
-use Rattle.cs_engine.proofs.FoundLemmas.{is_excluded}
+use Rattle.cs_rows.specs.Plain.{AreWordsOf}
+use Rattle.cs_rows.specs.Skipping.{hit_of_last, hit_of_part}
+use Rattle.cs_rows.specs.Sources.{IsSource, SourceView, seen}
+use Rattle.cs_rows.specs.Stocked.{corpus_in, stock_docs, is_between, base_posts}
+use Rattle.cs_rows.proofs.EvaluationLemmas.{ends_read, entry_begins, entry_by_hits, entry_ends, entry_unrolled, hits_by, met_query-is, positive_more}
+use Rattle.cs_rows.proofs.FoundLemmas.{is_excluded}
 use Rattle.cs_engine.proofs.KeepingLemmas.{from_stock, in_stock}
-use Rattle.cs_engine.proofs.PartSteps.{base_in, base_weaker, hits_in, nothing_fits, step_told}
+use Rattle.cs_rows.proofs.PartSteps.{base_in, base_weaker, hits_in, nothing_fits, step_told}
 
 -- ---- the entry that is lent
 pub record Viewed (o : Option (List ℕ × EntryOf Post)) (e : EntryOf Post) : Type 0 where

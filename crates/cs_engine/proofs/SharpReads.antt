@@ -33,17 +33,16 @@ use Rattle.cs_model_kept.specs.KeptListLaws.{before_last}
 use Rattle.cs_model_kept.specs.Sharp.{has_hit, hits_before, lies_in, sharp, sharp_by, sharp_of, sharp_of_facets, sharp_of_last}
 use Rattle.cs_model_kept.proofs.EntryLemmas.{parts_read}
 use Rattle.cs_model_index.specs.Sections.{file_corpus}
-use Rattle.cs_engine.specs.Asking.{division}
-use Rattle.cs_engine.specs.Skipping.{hit_docs, hit_of_facet, hit_of_facets, hit_of_last, hit_reads}
-use Rattle.cs_engine.specs.IndexReading.{stock_of}
-use Rattle.cs_engine.specs.Stocked.{corpus_in, present_docs}
-use Rattle.cs_engine.proofs.BoundedBlocks.{blocks_bounded}
-use Rattle.cs_engine.proofs.HitsLemmas.{own_docs}
+use Rattle.cs_rows.specs.IndexReading.{division, stock_of}
+use Rattle.cs_rows.specs.Skipping.{hit_docs, hit_of_facet, hit_of_facets, hit_of_last, hit_reads}
+use Rattle.cs_rows.specs.Stocked.{corpus_in, present_docs}
+use Rattle.cs_rows.proofs.BoundedBlocks.{blocks_bounded}
+use Rattle.cs_rows.proofs.HitsLemmas.{own_docs}
 use Rattle.cs_engine.proofs.PlansLemmas.{first_parts}
-use Rattle.cs_engine.proofs.OpenedLemmas.{opened_told}
-use Rattle.cs_engine.proofs.PresentLemmas.{is_present}
-use Rattle.cs_engine.proofs.StockLemmas.{stock_corpus}
-use Rattle.cs_engine.proofs.WalkLemmas.{within_more}
+use Rattle.cs_rows.proofs.OpenedLemmas.{opened_told}
+use Rattle.cs_rows.proofs.PresentLemmas.{is_present}
+use Rattle.cs_rows.proofs.StockLemmas.{stock_corpus}
+use Rattle.cs_rows.proofs.WalkLemmas.{within_more}
 
 -- ---- the last part
 listed_last : (d : Division) (k : Corpus) (ps : List PartRows) (o : Option Part) → 1 ≤ length ps → hit_of_last d (base_of k ps) o ≤ sharp_of_last d (hits k ps) o

@@ -21,7 +21,7 @@ use Rattle.cs_model.specs.Requests.{Request}
 use Rattle.cs_model_kept.specs.Due.{Division, due}
 use Rattle.cs_model_kept.specs.Sharp.{sharp}
 use Rattle.cs_engine.specs.Asking.{filed_titles, titles_asked, titles_read}
-use Rattle.cs_engine.proofs.WalkLemmas.{within_more}
+use Rattle.cs_rows.proofs.WalkLemmas.{within_more}
 
 pub filed_sum : (n : ℕ) (hs : List Scored) → sum (map (λ h. if nat_lt h.doc n then 1 else 0) hs) ≡ length (filter (λ h. nat_lt h.doc n) hs)
 filed_sum n [] = refl

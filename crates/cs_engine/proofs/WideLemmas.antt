@@ -30,23 +30,23 @@ use Rattle.cs_model_kept.specs.KeptList.{kept_fresh}
 use Rattle.cs_model_kept.specs.declared.limits.TheConstants.{MAX_ENTRY_SIZE}
 use Rattle.cs_base.specs.declared.index.plan.Kept.TheVariants as kept
 use Rattle.cs_tables.specs.WordCounts.{WordCountsView}
-use Rattle.cs_engine.specs.Asking.{division}
-use Rattle.cs_engine.specs.Blockwise.{HasFound, IsWideFound}
-use Rattle.cs_engine.specs.Counting.{in_listed}
+use Rattle.cs_rows.specs.IndexReading.{division}
+use Rattle.cs_rows.specs.Blockwise.{HasFound, IsWideFound}
+use Rattle.cs_rows.specs.Counting.{in_listed}
 use Rattle.cs_engine.specs.HeldRanges.{AreHeldOver, IsHeldOver, IsHoldingOver, is_kind, is_range}
 use Rattle.cs_engine.specs.declared.finding.CountedWords.{CountedWords}
 use Rattle.cs_engine.specs.declared.held.HeldRange.{HeldRange}
 use Rattle.cs_engine.specs.declared.held.Holding.{Holding}
 use Rattle.cs_engine.specs.declared.held.Holding.TheVariants as holding
-use Rattle.cs_engine.specs.Sources.{IsSource, SourceView, met_in, seen}
+use Rattle.cs_rows.specs.Sources.{IsSource, SourceView, met_in, seen}
 use Rattle.cs_engine.specs.Loose.{AreCountsFor, AreLastWords, IsEntryByWords}
-use Rattle.cs_engine.specs.Steps.{AreHitsOver}
-use Rattle.cs_engine.specs.Stocked.{Stock, base_posts, corpus_in, is_between}
+use Rattle.cs_rows.specs.Steps.{AreHitsOver}
+use Rattle.cs_rows.specs.Stocked.{Stock, base_posts, corpus_in, is_between}
 use Rattle.cs_engine.specs.Finding.{AreWide, AsksAlone, AsksRange}
-use Rattle.cs_engine.proofs.CountingLemmas.{listed_all}
-use Rattle.cs_engine.proofs.EvaluationLemmas.{met_query-is}
+use Rattle.cs_rows.proofs.CountingLemmas.{listed_all}
+use Rattle.cs_rows.proofs.EvaluationLemmas.{met_query-is}
 use Rattle.cs_engine.proofs.LooseLemmas.{found_counts, large_entry}
-use Rattle.cs_engine.proofs.OverSources.{all_there}
+use Rattle.cs_rows.proofs.OverSources.{all_there}
 use Rattle.cs_engine.proofs.PlansLemmas.{IsLast, ends_last, first_parts, more_by_words}
 
 -- ---- what is asked

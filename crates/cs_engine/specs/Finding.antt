@@ -25,15 +25,15 @@ use Rattle.cs_model.specs.Refusals.{IsOfGrammar}
 use Rattle.cs_model_kept.specs.Due.{met_of_part}
 use Rattle.cs_model_kept.specs.Entries.{EntryOf, entry_of}
 use Rattle.cs_model_kept.specs.KeptList.{is_same, kept_fresh}
-use Rattle.cs_engine.specs.Asking.{division}
-use Rattle.cs_engine.specs.Blockwise.{AreMany, IsWideFound}
+use Rattle.cs_rows.specs.IndexReading.{division}
+use Rattle.cs_rows.specs.Blockwise.{AreMany, IsWideFound}
 use Rattle.cs_engine.specs.HeldRanges.{is_range}
 use Rattle.cs_engine.specs.Keeping.{FitsQuery, IsEntryOver}
 use Rattle.cs_engine.specs.Loose.{IsTableFor}
-use Rattle.cs_engine.specs.Plain.{AreWordsOf}
-use Rattle.cs_engine.specs.Sources.{CanRead, IsSource, SourceView, seen}
-use Rattle.cs_engine.specs.Steps.{IsBaseOf}
-use Rattle.cs_engine.specs.Stocked.{corpus_in, is_between}
+use Rattle.cs_rows.specs.Plain.{AreWordsOf}
+use Rattle.cs_rows.specs.Sources.{CanRead, IsSource, SourceView, seen}
+use Rattle.cs_rows.specs.Steps.{IsBaseOf}
+use Rattle.cs_rows.specs.Stocked.{corpus_in, is_between}
 use Rattle.cs_engine.specs.declared.finding.QueryFound.{QueryFound}
 use Rattle.cs_engine.specs.declared.held.HeldRange.{HeldRange}
 

@@ -23,10 +23,10 @@ use Rattle.cs_base.specs.declared.content.limits.TheConstants.{MAX_PARTS}
 use Rattle.cs_base.specs.declared.content.scores.TheConstants.{MAX_ROW_SCORE}
 use Rattle.cs_file.specs.Indexes.{IndexView}
 use Rattle.cs_model_kept.specs.Entries.{listed_count}
-use Rattle.cs_engine.specs.Blockwise.{IsWideFound}
-use Rattle.cs_engine.specs.IndexReading.{AreWithin}
-use Rattle.cs_engine.specs.Steps.{IsBaseOf}
-use Rattle.cs_engine.specs.Stocked.{Stock, is_between}
+use Rattle.cs_rows.specs.Blockwise.{IsWideFound}
+use Rattle.cs_rows.specs.IndexReading.{AreWithin}
+use Rattle.cs_rows.specs.Steps.{IsBaseOf}
+use Rattle.cs_rows.specs.Stocked.{Stock, is_between}
 use Rattle.cs_engine.specs.declared.held.HeldRange.{HeldRange}
 use Rattle.cs_engine.specs.declared.held.Holding.{Holding}
 use Rattle.cs_engine.specs.declared.held.Holding.TheVariants as holding

@@ -5,7 +5,6 @@
 --
 --   EngineView                an opened index, what is kept of answers, and the ranges of words that are held
 --   engine_with i a h         an engine of this index, with these answers kept and these ranges held
---   entry_with b posts        the entry of this base and these posts
 --   FitsQuery i q e           an entry is in the range of an index, as that of the query q is
 --   IsKeptEntry i e           the key of e is that of a query of the grammar, whose entry fits the index i
 --   KeepsFitting i held       each entry does
@@ -49,9 +48,9 @@ use Rattle.cs_model_index.specs.Sections.{file_corpus}
 use Rattle.cs_model_kept.specs.Entries.{EntryOf, entry_at, entry_of}
 use Rattle.cs_model_kept.specs.KeptList.{KeptOf, GoodFor, after, kept_at, kept_by, kept_fresh, plan_by, put_in_front, to_front, used_key, is_same}
 use Rattle.cs_engine.specs.HeldRanges.{AreHeldOver}
-use Rattle.cs_engine.specs.IndexReading.{stock_of}
-use Rattle.cs_engine.specs.Steps.{EntryFits, last_is_positive}
-use Rattle.cs_engine.specs.Stocked.{Stock}
+use Rattle.cs_rows.specs.IndexReading.{stock_of}
+use Rattle.cs_rows.specs.Steps.{EntryFits, entry_with, last_is_positive}
+use Rattle.cs_rows.specs.Stocked.{Stock}
 use Rattle.cs_file.specs.declared.fault.FetchFault.{FetchFault}
 use Rattle.cs_file.specs.declared.fault.FetchFault.TheVariants as fetches
 use Rattle.cs_engine.specs.declared.held.HeldRange.{HeldRange}
@@ -69,10 +68,6 @@ abbrev pub engine_with : IndexView → AnswerList → List HeldRange → EngineV
 engine_with i a h = record { index = i; answers = a; held = h }
 
 -- ---- over each store
--- as it stands; of no posts it has no rows
-abbrev pub entry_with : Base → List Post → EntryOf Post
-entry_with b posts = record { base = b; rows = posts }
-
 -- its posts and its base are within the index, and its scores are those of so many parts
 abbrev pub FitsQuery : IndexView → Query → EntryOf Post → Type 0
 FitsQuery i q e = EntryFits i (last_is_positive q) (length (out-Query q).parts) e

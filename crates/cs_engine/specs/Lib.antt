@@ -1,17 +1,5 @@
 pub mod Asking
-pub mod Blockwise
-pub mod Counting
 pub mod Keeping
 pub mod Loose
-pub mod Packing
-pub mod Plain
-pub mod IndexReading
-pub mod Steps
-pub mod Stocked
-pub mod GatheredRows
-pub mod Spans
 pub mod HeldRanges
 pub mod Finding
-pub mod Sources
-pub mod Skipping
-pub mod Restricting

@@ -2,9 +2,6 @@
 --
 -- Source: this engine's own.
 --
---   best_of rows d           the greatest score of the rows of document d
---   HasBestScores seen best          a table by document of the rows that were seen; a row has a score, so 0 says that there is none
---   hits_in d best           the documents of a table, from d on, that have a row, with their scores
 --   AreLastWords i q hits lo hi      the last part of a query is positive and asks for these words, and hits are in range as those before it
 --   IsEntryByWords b v q hits lo hi  over the bytes of its index a source's own entry of a query is that of these hits and words
 --   IsTableFor v b q cut hits t      over the bytes of its index a table is that of a query of these hits, cut
@@ -21,25 +18,12 @@ use Rattle.cs_rank.specs.DocScores.{greatest, of_doc}
 use Rattle.cs_tables.specs.TableListings.{post_table}
 use Rattle.cs_tables.specs.WordCounts.{WordCountsView}
 use Rattle.cs_tables.specs.declared.tables.Table.{Table}
-use Rattle.cs_engine.specs.Blockwise.{CountsTable}
-use Rattle.cs_engine.specs.Keeping.{IsEntryOver, entry_with}
-use Rattle.cs_engine.specs.IndexReading.{AreWithin}
-use Rattle.cs_engine.specs.Sources.{SourceView, seen}
-use Rattle.cs_engine.specs.Steps.{AreFound, IsBaseOf, last_is_positive}
-use Rattle.cs_engine.specs.Stocked.{corpus_in, is_between, base_posts}
-
--- 0 where the document has no row
-abbrev pub best_of : List Post → ℕ → ℕ
-best_of rows d = greatest (map (λ p. p.score) (of_doc d rows))
-
--- of no rows each entry is 0
-abbrev pub HasBestScores : List Post → List ℕ → Type 0
-HasBestScores seen best = (d : ℕ) → d < length best → slice_index best d ≡ best_of seen d
-
--- none of an empty table
-unfoldable pub hits_in : ℕ → List ℕ → List Scored
-hits_in d [] = []
-hits_in d (b ∷ bs) = if nat_lt 0 b then record { doc = d; score = b } ∷ hits_in (d + 1) bs else hits_in (d + 1) bs
+use Rattle.cs_rows.specs.Blockwise.{CountsTable}
+use Rattle.cs_engine.specs.Keeping.{IsEntryOver}
+use Rattle.cs_rows.specs.Steps.{entry_with, AreFound, IsBaseOf, last_is_positive}
+use Rattle.cs_rows.specs.IndexReading.{AreWithin}
+use Rattle.cs_rows.specs.Sources.{SourceView, seen}
+use Rattle.cs_rows.specs.Stocked.{corpus_in, is_between, base_posts}
 
 -- before a query's only part all documents are hits
 pub record AreLastWords (i : IndexView) (q : Query) (hits : Base) (lo hi : ℕ) : Type 0 where

@@ -6,8 +6,12 @@ ghost use Rattle.cs_file.specs.declared.fault.FetchFault.TheVariants as fetches;
 ghost use Rattle.cs_model.specs.Parameters.{HoldsLimits};
 ghost use Rattle.cs_model_kept.specs.{Due.{due}, KeptList.{plan_by, is_same}};
 ghost use Rattle.cs_query.specs.RequestView.{asked};
-ghost use Rattle.cs_engine.specs.{Asking.{division, filed_titles}, HeldRanges.{FitsRange, HoldsMore, range_bytes}, IndexReading.{OnlyReads, WhereStood}};
-ghost use Rattle.cs_engine.specs.{Skipping.{hit_reads}, Sources.{CanRead, seen}, Stocked.{corpus_in}};
+ghost use Rattle.cs_rows.specs.IndexReading.{division, OnlyReads, WhereStood};
+ghost use Rattle.cs_engine.specs.Asking.{filed_titles};
+ghost use Rattle.cs_engine.specs.HeldRanges.{FitsRange, HoldsMore, range_bytes};
+ghost use Rattle.cs_rows.specs.Skipping.{hit_reads};
+ghost use Rattle.cs_rows.specs.Sources.{CanRead, seen};
+ghost use Rattle.cs_rows.specs.Stocked.{corpus_in};
 ghost use Rattle.cs_engine.specs.declared.held.Holding.TheVariants as holding;
 ghost use Rattle.cs_engine.specs.declared.held.TheConstants.{MAX_HELD_BYTES};
 ghost use Rattle.cs_engine.specs.Keeping.{AnswersRight, AreGoodFor, KeepsAnswers, KeepsFitting, became, engine_with, entries_behind, note_plan, wants_memory};
@@ -17,11 +21,11 @@ use crate::finding::{CountedWords, QueryOver};
 use crate::held::{HeldRange, Holder, Holding};
 use crate::note::Note;
 use crate::show::{RequestOver, show};
-use crate::source::Source;
 use cs_base::{Base, Kept, Keys, Plan, Store};
 use cs_cache::{Answers, Entry};
 use cs_file::FetchFault;
 use cs_query::{Reply, keys};
+use cs_rows::Source;
 
 /// The reply to a request over a source, and how it was answered. It goes on from what is kept and held; blocks are read where that doesn't
 /// serve. What is kept and held must be of this source.

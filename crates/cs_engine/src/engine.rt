@@ -10,18 +10,21 @@ ghost use Rattle.cs_model.specs.{Parameters.{HoldsLimits}, Requests.{reply_of}};
 ghost use Rattle.cs_model_index.specs.Sections.{file_corpus};
 ghost use Rattle.cs_model_kept.specs.{Due.{due}, Sharp.{sharp}, declared.limits.TheConstants.{MAX_ENTRIES}};
 ghost use Rattle.cs_query.specs.RequestView.{asked};
-ghost use Rattle.cs_engine.specs.{Asking.{IsChangeIn, division, titles_asked}, HeldRanges.{range_bytes}, declared.held.TheConstants.{MAX_HELD_BYTES}};
+ghost use Rattle.cs_rows.specs.IndexReading.{IsChangeIn, division};
+ghost use Rattle.cs_engine.specs.Asking.{titles_asked};
+ghost use Rattle.cs_engine.specs.HeldRanges.{range_bytes};
+ghost use Rattle.cs_engine.specs.declared.held.TheConstants.{MAX_HELD_BYTES};
 ghost use Rattle.cs_engine.specs.Keeping.{AreGood, IsAfter, KeepsAnswers, note_plan};
 
 use crate::ask::ask_over;
 use crate::held::Holder;
 use crate::note::Note;
-use crate::opened::index_is_source;
 use crate::show::RequestOver;
 use cs_base::Store;
 use cs_cache::Answers;
 use cs_file::{FetchFault, Index};
 use cs_query::{Reply, Request};
+use cs_rows::index_is_source;
 use std::alloc::Global;
 use std::marker::Model;
 

@@ -3,21 +3,22 @@ ghost use Rattle.std.specs.Prelude.{◌≡◌, false, true, is_some, IfOk};
 ghost use Rattle.std.specs.List.{All};
 ghost use Rattle.cs_base.specs.outside.Causes.{ReadsWithin};
 ghost use Rattle.cs_model_kept.specs.{Due.{met_by, met_of_query}, KeptList.{is_same}, Sharp.{sharp_by}};
-ghost use Rattle.cs_engine.specs.{Asking.{division}, Finding.{CanFind, FitsFound, IsFoundAnew, IsFoundOver}};
-ghost use Rattle.cs_engine.specs.{HeldRanges.{AreHeldOver, FitsRange, OnlyGoes}, IndexReading.{OnlyReads, WhereStood}, Keeping.{HoldsGood, IsPlanned}};
-ghost use Rattle.cs_engine.specs.{Sources.{seen}, Stocked.{corpus_in}};
+ghost use Rattle.cs_rows.specs.IndexReading.{division, OnlyReads, WhereStood};
+ghost use Rattle.cs_engine.specs.Finding.{CanFind, FitsFound, IsFoundAnew, IsFoundOver};
+ghost use Rattle.cs_engine.specs.HeldRanges.{AreHeldOver, FitsRange, OnlyGoes};
+ghost use Rattle.cs_engine.specs.Keeping.{HoldsGood, IsPlanned};
+ghost use Rattle.cs_rows.specs.Sources.{seen};
+ghost use Rattle.cs_rows.specs.Stocked.{corpus_in};
 
-use crate::entries::first_entry;
 use crate::find_kept::{hits_before_last, narrowed};
 use crate::find_parts::find_last;
 use crate::find_range::{find_range, wide_words};
 use crate::finding::{QueryFound, QueryOver, found_in, found_with};
 use crate::held::Holder;
-use crate::source::Source;
-use crate::steps::hits_of_parts;
 use cs_base::{Keys, Plan, Store};
 use cs_cache::Answers;
 use cs_file::FetchFault;
+use cs_rows::{Source, first_entry, hits_of_parts};
 
 /// What is found of a query by a plan of what is kept. Where nothing that is kept serves, and the query asks for a wide range of words
 /// alone, it is found by the range, which is taken out of what is held.

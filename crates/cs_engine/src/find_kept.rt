@@ -6,16 +6,15 @@ ghost use Rattle.cs_model.specs.{Answers.{begins}, Keys.{last_prefix}};
 ghost use Rattle.cs_model_index.specs.Numbered.{word_at};
 ghost use Rattle.cs_model_kept.specs.KeptListLaws.{before_last};
 ghost use Rattle.cs_rank.specs.DocScores.{IsBase};
-ghost use Rattle.cs_engine.specs.{IndexReading.{AreWithin}, Sources.{seen}, Steps.{last_is_positive, posts_hits}};
+ghost use Rattle.cs_rows.specs.IndexReading.{AreWithin};
+ghost use Rattle.cs_rows.specs.Sources.{seen};
+ghost use Rattle.cs_rows.specs.Steps.{last_is_positive, posts_hits};
 
-use crate::between::posts_between;
-use crate::entries::{base_copy, posts_hits};
-use crate::source::Source;
-use crate::steps::end_positive;
 use cs_base::{Base, Memory, Query};
 use cs_cache::Entry;
 use cs_cols::Cols;
 use cs_query::last_prefix;
+use cs_rows::{Source, base_copy, end_positive, posts_between, posts_hits};
 use std::alloc::Global;
 
 /// The entry of a query whose prefix is being typed, out of that of the query with a shorter prefix in its place: the rows whose

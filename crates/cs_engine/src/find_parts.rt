@@ -5,25 +5,26 @@ ghost use Rattle.cs_base.specs.declared.content.doc.Base.TheVariants as base;
 ghost use Rattle.cs_base.specs.{outside.Causes.{ReadsWithin}, declared.content.scores.TheConstants.{MAX_ROW_SCORE}, declared.content.query.Query.{out-Query}};
 ghost use Rattle.cs_model.specs.Keys.{last_of};
 ghost use Rattle.cs_model_kept.specs.{Entries.{listed_count}, KeptListLaws.{before_last}, declared.limits.TheConstants.{MAX_ENTRY_SIZE}};
-ghost use Rattle.cs_engine.specs.{Asking.{division}, Counting.{AreListed, in_listed}, Finding.{CanFind, FitsFound, IsFoundAnew}, GatheredRows.{HasGathered}};
-ghost use Rattle.cs_engine.specs.{IndexReading.{OnlyReads, WhereStood}, Loose.{AreLastWords, IsEntryByWords}};
-ghost use Rattle.cs_engine.specs.{Skipping.{hit_blocks, hit_met, hit_of_last}, Sources.{seen}, Steps.{AreHitsOver, IsBaseOf}, Stocked.{is_between}};
+ghost use Rattle.cs_rows.specs.IndexReading.{division, OnlyReads, WhereStood};
+ghost use Rattle.cs_rows.specs.Counting.{AreListed, in_listed};
+ghost use Rattle.cs_engine.specs.Finding.{CanFind, FitsFound, IsFoundAnew};
+ghost use Rattle.cs_rows.specs.GatheredRows.{HasGathered};
+ghost use Rattle.cs_engine.specs.Loose.{AreLastWords, IsEntryByWords};
+ghost use Rattle.cs_rows.specs.Skipping.{hit_blocks, hit_met, hit_of_last};
+ghost use Rattle.cs_rows.specs.Sources.{seen};
+ghost use Rattle.cs_rows.specs.Steps.{AreHitsOver, IsBaseOf};
+ghost use Rattle.cs_rows.specs.Stocked.{is_between};
 
-use crate::blockwise::found_behind;
-use crate::chosen::{many_chosen, pack_chosen};
-use crate::counting::listed_docs;
 use crate::finding::{CountedWords, QueryFound, QueryOver, found_with};
-use crate::gathering::{GatheredKeys, gather_keys};
-use crate::hits::{listed_count, lists_none};
-use crate::packing::ordered;
-use crate::plain::words_of_part;
-use crate::source::Source;
-use crate::steps::extended_entry;
 use cs_base::{Base, Store};
 use cs_cache::Entry;
 use cs_cols::Cols;
 use cs_file::FetchFault;
 use cs_model_kept::MAX_ENTRY_SIZE;
+use cs_rows::{
+    GatheredKeys, Source, extended_entry, found_behind, gather_keys, listed_count, listed_docs,
+    lists_none, many_chosen, ordered, pack_chosen, words_of_part,
+};
 use cs_tables::WordCounts;
 
 /// What is found of a query by the hits of its parts before the last, whose atoms are read. Without a hit nothing is read, and for an atom

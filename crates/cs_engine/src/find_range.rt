@@ -4,19 +4,19 @@ ghost use Rattle.std.specs.List.{All};
 ghost use Rattle.cs_base.specs.declared.content.doc.Base.TheVariants as base;
 ghost use Rattle.cs_base.specs.declared.content.{limits.TheConstants.{MAX_PARTS}, scores.TheConstants.{MAX_ROW_SCORE}};
 ghost use Rattle.cs_base.specs.outside.Causes.{ReadsWithin};
-ghost use Rattle.cs_engine.specs.{Blockwise.{HasFound}, Finding.{AreWide, AsksAlone, AsksRange, CanFind, FitsFound, IsFoundAnew}};
-ghost use Rattle.cs_engine.specs.{HeldRanges.{AreHeldOver, FitsRange, OnlyGoes}, IndexReading.{IsWordRange, OnlyReads, WhereStood}};
-ghost use Rattle.cs_engine.specs.{Sources.{CanRead, IsSource, met_in, seen}, Steps.{IsBaseOf}, Stocked.{is_between}};
+ghost use Rattle.cs_rows.specs.Blockwise.{HasFound};
+ghost use Rattle.cs_engine.specs.Finding.{AreWide, AsksAlone, AsksRange, CanFind, FitsFound, IsFoundAnew};
+ghost use Rattle.cs_engine.specs.HeldRanges.{AreHeldOver, FitsRange, OnlyGoes};
+ghost use Rattle.cs_rows.specs.IndexReading.{IsWordRange, OnlyReads, WhereStood};
+ghost use Rattle.cs_rows.specs.Sources.{CanRead, IsSource, met_in, seen};
+ghost use Rattle.cs_rows.specs.Steps.{IsBaseOf};
+ghost use Rattle.cs_rows.specs.Stocked.{is_between};
 
-use crate::blockwise::found_behind;
-use crate::counting::listed_docs;
 use crate::finding::{CountedWords, QueryFound, QueryOver};
-use crate::gathering::nothing_gathered;
 use crate::held::{Holder, Holding};
-use crate::plain::words_of_part;
-use crate::source::Source;
 use cs_base::{Base, Part, Store};
 use cs_file::FetchFault;
+use cs_rows::{Source, found_behind, listed_docs, nothing_gathered, words_of_part};
 use cs_tables::WordCounts;
 use std::alloc::Global;
 

@@ -6,14 +6,16 @@ ghost use Rattle.cs_base.specs.declared.content.query.Query.{out-Query};
 ghost use Rattle.cs_base.specs.declared.content.scores.TheConstants.{MAX_ROW_SCORE};
 ghost use Rattle.cs_file.specs.Indexes.{StandsFor};
 ghost use Rattle.cs_engine.specs.Finding.{CanOwn, FitsFound, IsFoundAnew};
-ghost use Rattle.cs_engine.specs.{Keeping.{FitsQuery, IsEntryOver, entry_with}, Loose.{IsTableFor}, Sources.{seen}, Steps.{IsBaseOf}, Stocked.{corpus_in}};
+ghost use Rattle.cs_engine.specs.Keeping.{FitsQuery, IsEntryOver};
+ghost use Rattle.cs_rows.specs.Steps.{entry_with, IsBaseOf};
+ghost use Rattle.cs_engine.specs.Loose.{IsTableFor};
+ghost use Rattle.cs_rows.specs.Sources.{seen};
+ghost use Rattle.cs_rows.specs.Stocked.{corpus_in};
 
-use crate::entries::posts_hits;
-use crate::source::Source;
-use crate::steps::end_positive;
 use cs_base::{Base, Memory, Query};
 use cs_cache::Entry;
 use cs_cols::Cols;
+use cs_rows::{Source, end_positive, posts_hits};
 use cs_tables::{Table, WordCounts, completions};
 use std::alloc::{AllocError, Global};
 

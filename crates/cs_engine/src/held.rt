@@ -5,9 +5,9 @@ ghost use Rattle.std.specs.Prelude.{◌≡◌, ◌+◌, ◌<◌, ◌≤◌, ◌^
 ghost use Rattle.std.specs.List.{list_any};
 ghost use Rattle.cs_engine.specs.HeldRanges.{HoldsMore, IsFirstOf, IsWithout, PassesAt, bytes_of_range, is_kind, is_range, range_bytes, what_bytes};
 
-use crate::hits::listed_count;
 use cs_base::Base;
 use cs_cols::Cols;
+use cs_rows::listed_count;
 use cs_tables::WordCounts;
 use std::alloc::Global;
 use std::marker::Model;

@@ -1,11 +1,13 @@
 //! Words as they are shown.
 ghost use Rattle.std.specs.Prelude.{◌≡◌, ◌<◌, IfOk, length, map};
 ghost use Rattle.std.specs.{List.{All}, Str.{IsUtf8}};
-ghost use Rattle.{cs_model.specs.Replies.{shown_word}, cs_engine.specs.{Skipping.{bare_facet}, Stocked.{shown_at}}};
+ghost use Rattle.cs_model.specs.Replies.{shown_word};
+ghost use Rattle.cs_rows.specs.Skipping.{bare_facet};
+ghost use Rattle.cs_rows.specs.Stocked.{shown_at};
 
-use crate::source::Source;
 use cs_base::{Memory, Seq, Text};
 use cs_query::{FacetShown, Shown};
+use cs_rows::Source;
 use cs_tables::Completion;
 use std::alloc::Global;
 

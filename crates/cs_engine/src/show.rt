@@ -1,23 +1,27 @@
 //! Showing what is found of a query: the reply, with the words of its completions, the tables of facets, and the titles of its hits.
-ghost use Rattle.std.specs.Prelude.{◌≡◌, ◌+◌, ◌*◌, ◌≤◌, ◌<◌, [], length, map, IfOk};
+ghost use Rattle.std.specs.Prelude.{◌≡◌, ◌+◌, ◌*◌, ◌≤◌, ◌<◌, ◌⊎◌, [], true, length, map, IfOk};
 ghost use Rattle.std.specs.List.{All};
 ghost use Rattle.cs_base.specs.{declared.content.scores.TheConstants.{MAX_ROW_SCORE}, outside.Causes.{ReadsWithin}};
 ghost use Rattle.cs_base.specs.declared.content.limits.TheConstants.{MAX_PARTS};
 ghost use Rattle.cs_model.specs.Requests.{hit_shown, reply_of};
 ghost use Rattle.cs_query.specs.RequestView.{asked};
-ghost use Rattle.cs_engine.specs.{Asking.{division, titles_read}, Counting.{AreListed}, HeldRanges.{AreHeldOver, FitsRange}, Loose.{IsTableFor}};
-ghost use Rattle.cs_engine.specs.{IndexReading.{OnlyReads, WhereStood}, Skipping.{hit_of_facet, hit_of_facets}, Sources.{CanRead, filed_hits, seen}, Steps.{IsBaseOf}, Stocked.{corpus_in, facet_at}};
+ghost use Rattle.cs_rows.specs.IndexReading.{division, OnlyReads, WhereStood};
+ghost use Rattle.cs_engine.specs.Asking.{HasNoWord, titles_read};
+ghost use Rattle.cs_rows.specs.Counting.{AreListed};
+ghost use Rattle.cs_engine.specs.HeldRanges.{AreHeldOver, FitsRange};
+ghost use Rattle.cs_engine.specs.Loose.{IsTableFor};
+ghost use Rattle.cs_rows.specs.Skipping.{hit_of_facet, hit_of_facets, lists_none};
+ghost use Rattle.cs_rows.specs.Sources.{CanRead, filed_hits, seen};
+ghost use Rattle.cs_rows.specs.Steps.{IsBaseOf};
+ghost use Rattle.cs_rows.specs.Stocked.{corpus_in, facet_at};
 
-use crate::counting::listed_docs;
 use crate::facets::counted_facet;
 use crate::held::Holder;
-use crate::hits::{first_hits, lists_none};
 use crate::replies::{bare_facets, shown_words};
-use crate::source::Source;
-use crate::words::span_of_facet;
-use cs_base::{Base, Scored, Seq, Store, Text};
+use cs_base::{Base, Memory, Scored, Seq, Store, Text};
 use cs_file::FetchFault;
 use cs_query::{FacetShown, HitShown, Reply, Request};
+use cs_rows::{Source, first_hits, listed_docs, lists_none, span_of_facet};
 use cs_tables::Table;
 use std::alloc::{AllocError, Global};
 
@@ -83,7 +87,7 @@ pub(crate) fn show<I: Source, S: Store>(
     })
 }
 
-// The table of each facet asked. Without a hit nothing is read.
+// The table of each facet asked. Without a hit, or a word of them, nothing is read.
 fn shown_facets<I: Source, S: Store>(
     over: RequestOver<'_, I>,
     store: &mut S,
@@ -113,7 +117,7 @@ fn shown_facets<I: Source, S: Store>(
     if request.facets.as_slice().is_empty() {
         return Ok(shown);
     }
-    if lists_none(base) {
+    if are_bare(alloc, index, base, request.facets.as_slice())? {
         let bare = bare_facets(alloc, request.facets.as_slice())?;
         return Ok(bare);
     }
@@ -123,6 +127,28 @@ fn shown_facets<I: Source, S: Store>(
         shown.push(facet)?;
     }
     Ok(shown)
+}
+
+// Whether facets of these names are shown with no word, as there is no hit, or no word of these facets.
+fn are_bare<I: Source>(
+    alloc: Global,
+    index: &I,
+    base: &Base,
+    names: &[Text],
+) -> Result<bool, Memory>
+    ensures { IfOk result (λ bare. bare ≡ true
+        → (lists_none base.now ≡ true) ⊎ All (HasNoWord (I.view index.now).words) names.now) }
+{
+    if lists_none(base) {
+        return Ok(true);
+    }
+    for name in names {
+        let words = span_of_facet(alloc, index, name)?;
+        if words.0 < words.1 {
+            return Ok(false);
+        }
+    }
+    Ok(true)
 }
 
 // The table of one facet in the documents that a base lists.

@@ -38,7 +38,8 @@ use Rattle.cs_base.specs.declared.outside.hub.Event.{Event}
 use Rattle.cs_base.specs.declared.outside.hub.Event.TheVariants as events
 use Rattle.cs_base.specs.outside.Causes.{ReadsWithin}
 use Rattle.cs_base.specs.outside.Hub.{Talk}
-use Rattle.cs_engine.specs.Asking.{IsChangeIn, titles_asked}
+use Rattle.cs_rows.specs.IndexReading.{IsChangeIn}
+use Rattle.cs_engine.specs.Asking.{titles_asked}
 use Rattle.cs_file.specs.CallAnswers.{is_read}
 use Rattle.cs_engine.specs.Keeping.{AreGood, EngineView}
 use Rattle.cs_file.specs.declared.fault.FetchFault.{FetchFault}

@@ -13,7 +13,7 @@ use Rattle.std.proofs.lemmas.Option.{same_Some}
 use Rattle.std.proofs.lemmas.Result.{IfOk-weaker}
 use Rattle.cs_base.specs.declared.memory.Memory.{Memory}
 use Rattle.cs_base.specs.outside.Causes.{Rose}
-use Rattle.cs_engine.specs.Asking.{IsChangeIn}
+use Rattle.cs_rows.specs.IndexReading.{IsChangeIn}
 use Rattle.cs_engine.specs.declared.note.Note.{Note}
 use Rattle.cs_file.specs.Indexes.{CausedReads}
 use Rattle.cs_file.specs.declared.fault.FetchFault.{FetchFault}

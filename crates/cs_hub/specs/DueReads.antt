@@ -65,7 +65,8 @@ use Rattle.cs_model_serving.specs.Responses.{Response, all_bytes, index_changed,
 use Rattle.cs_file.specs.declared.fault.FetchFault.{FetchFault}
 use Rattle.cs_file.specs.declared.fault.FetchFault.TheVariants as faults
 use Rattle.cs_engine.specs.declared.note.Note.{Note}
-use Rattle.cs_engine.specs.Asking.{IsChangeIn, division, titles_asked}
+use Rattle.cs_rows.specs.IndexReading.{IsChangeIn, division}
+use Rattle.cs_engine.specs.Asking.{titles_asked}
 use Rattle.cs_file.specs.CallAnswers.{is_changed, is_read}
 use Rattle.cs_engine.specs.Keeping.{AreGood, EngineView, IsAfter, KeepsAnswers, note_plan}
 use Rattle.cs_hub.specs.HubFollowing.{Lefts, left_at}

@@ -9,7 +9,7 @@
 --   TellsChange i told o     o, if it is a change, tells a rule that bytes of the index i break, and its place
 --   fails_read o             a read failed
 use Rattle.std.specs.Prelude.{◌≡◌, ◌≢◌, ◌⊎◌, Bool, true, false, List, ℕ, Option, None, Result, Ok, Err}
-use Rattle.cs_engine.specs.Asking.{BreaksIndex}
+use Rattle.cs_rows.specs.IndexReading.{BreaksIndex}
 use Rattle.cs_file.specs.declared.fault.FetchFault.{FetchFault}
 use Rattle.cs_file.specs.declared.fault.FetchFault.TheVariants as fetches
 use Rattle.cs_file.specs.Indexes.{IndexView}

@@ -28,9 +28,9 @@ use Rattle.cs_base.proofs.MembersLemmas.{all_then, members_are}
 use Rattle.cs_base.proofs.OrdersLemmas.{by_row_exact, by_row_total, rows_up}
 use Rattle.cs_build.specs.Building.{KeepLimits}
 use Rattle.cs_build.proofs.RowLemmas.{keep_limits}
-use Rattle.cs_engine.specs.IndexReading.{IsWithin, stock_of}
-use Rattle.cs_engine.specs.Sources.{IsIn, is_there}
-use Rattle.cs_engine.proofs.CountingLemmas.{stock_within}
+use Rattle.cs_rows.specs.IndexReading.{IsWithin, stock_of}
+use Rattle.cs_rows.specs.Sources.{IsIn, is_there}
+use Rattle.cs_rows.proofs.CountingLemmas.{stock_within}
 use Rattle.cs_file.specs.Indexes.{StandsFor}
 use Rattle.cs_model.specs.Collection.{documents}
 use Rattle.cs_model.specs.Corpus.{doc_rows, rows_of, title_of}

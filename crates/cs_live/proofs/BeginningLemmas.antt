@@ -15,13 +15,13 @@ use Rattle.std.proofs.lemmas.List.Elements.{All-nil, All-from_recursion, All-wea
 use Rattle.cs_base.specs.content.Orders.{AreSorted, by_spot}
 use Rattle.cs_base.specs.declared.content.doc.Post.{Post}
 use Rattle.cs_base.specs.declared.content.doc.Row.{Row}
-use Rattle.cs_engine.specs.IndexReading.{IsWithin, stock_of}
-use Rattle.cs_engine.specs.Sources.{IsIn, is_there}
-use Rattle.cs_engine.proofs.CountingLemmas.{stock_within}
-use Rattle.cs_engine.proofs.FoundLemmas.{stays}
-use Rattle.cs_engine.proofs.ListedLemmas.{range_rises}
-use Rattle.cs_engine.proofs.OpenedLemmas.{opened_source}
-use Rattle.cs_engine.proofs.StockLemmas.{docs_are, stock_corpus, words_are}
+use Rattle.cs_rows.specs.IndexReading.{IsWithin, stock_of}
+use Rattle.cs_rows.specs.Sources.{IsIn, is_there}
+use Rattle.cs_rows.proofs.CountingLemmas.{stock_within}
+use Rattle.cs_rows.proofs.FoundLemmas.{stays}
+use Rattle.cs_rows.proofs.ListedLemmas.{range_rises}
+use Rattle.cs_rows.proofs.OpenedLemmas.{opened_source}
+use Rattle.cs_rows.proofs.StockLemmas.{docs_are, stock_corpus, words_are}
 use Rattle.cs_file.specs.Indexes.{IndexView, IsIndex, StandsFor}
 use Rattle.cs_merge.specs.Vocabularies.{IsShift, nth_word}
 use Rattle.cs_model.specs.Corpus.{Corpus, by_number}

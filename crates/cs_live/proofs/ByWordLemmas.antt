@@ -34,10 +34,10 @@ use Rattle.cs_base.proofs.MembersLemmas.{all_then, members_are}
 use Rattle.cs_base.proofs.OrdersLemmas.{lt-from_Less}
 use Rattle.cs_tables.specs.TableListings.{with_word}
 use Rattle.cs_tables.specs.WordCounts.{AreCountable}
-use Rattle.cs_engine.specs.IndexReading.{by_post}
-use Rattle.cs_engine.specs.Stocked.{is_between}
-use Rattle.cs_engine.proofs.FoundLemmas.{stays}
-use Rattle.cs_engine.proofs.StockLemmas.{by_post_exact, by_post_total}
+use Rattle.cs_rows.specs.IndexReading.{by_post}
+use Rattle.cs_rows.specs.Stocked.{is_between}
+use Rattle.cs_rows.proofs.FoundLemmas.{stays}
+use Rattle.cs_rows.proofs.StockLemmas.{by_post_exact, by_post_total}
 use Rattle.cs_live.specs.States.{AreByWord, renumbered}
 
 -- ---- tests that come in either order

@@ -24,12 +24,12 @@ use Rattle.cs_base.specs.declared.content.scores.Weights.{Weights}
 use Rattle.cs_base.proofs.ListsLemmas.{all_stay}
 use Rattle.cs_base.proofs.MembersLemmas.{listed_itself}
 use Rattle.cs_build.proofs.CollectionFiles.{blocks_accepted, blocks_read}
-use Rattle.cs_engine.specs.IndexReading.{IsWithin, stock_of}
-use Rattle.cs_engine.specs.Sources.{all_rows, source_of}
-use Rattle.cs_engine.specs.Stocked.{IsKnown}
-use Rattle.cs_engine.proofs.CountingLemmas.{stock_within}
-use Rattle.cs_engine.proofs.OpenedLemmas.{opened_told}
-use Rattle.cs_engine.proofs.StockLemmas.{docs_are, stock_corpus, stocked, words_are}
+use Rattle.cs_rows.specs.IndexReading.{IsWithin, stock_of}
+use Rattle.cs_rows.specs.Sources.{all_rows, source_of}
+use Rattle.cs_rows.specs.Stocked.{IsKnown}
+use Rattle.cs_rows.proofs.CountingLemmas.{stock_within}
+use Rattle.cs_rows.proofs.OpenedLemmas.{opened_told}
+use Rattle.cs_rows.proofs.StockLemmas.{docs_are, stock_corpus, stocked, words_are}
 use Rattle.cs_file.specs.Indexes.{IndexView, IsIndex, StandsFor}
 use Rattle.cs_file.proofs.StoodLemmas.{stood_block, stood_count}
 use Rattle.cs_model.specs.Corpus.{Corpus, by_number, distinct_words}

@@ -20,12 +20,12 @@ use Rattle.cs_file.specs.Indexes.{IndexView, IsIndex, StandsFor, block_posts, ti
 use Rattle.cs_file.specs.declared.fetched.Fetched.{Fetched}
 use Rattle.cs_model_index.specs.Sections.{image_of}
 use Rattle.cs_tables.specs.WordCounts.{is_chosen}
-use Rattle.cs_engine.specs.IndexReading.{IsWithin}
-use Rattle.cs_engine.specs.Sources.{seen}
-use Rattle.cs_engine.specs.Stocked.{title_at}
-use Rattle.cs_engine.proofs.OpenedLemmas.{opened_title}
-use Rattle.cs_engine.proofs.ReplyLemmas.{titled}
-use Rattle.cs_engine.proofs.StockLemmas.{docs_are, within_block}
+use Rattle.cs_rows.specs.IndexReading.{IsWithin}
+use Rattle.cs_rows.specs.Sources.{seen}
+use Rattle.cs_rows.specs.Stocked.{title_at}
+use Rattle.cs_rows.proofs.OpenedLemmas.{opened_title}
+use Rattle.cs_rows.proofs.ReplyLemmas.{titled}
+use Rattle.cs_rows.proofs.StockLemmas.{docs_are, within_block}
 use Rattle.cs_live.specs.States.{IsFetched, IsScoredNow, IsState, IsTitle, StateView, now_posts, rank, renumbered, source_now, stock_now}
 use Rattle.cs_live.proofs.NumberLemmas.{known_word}
 use Rattle.cs_live.proofs.NowLemmas.{all_now, between_now, chosen_now, get_map}

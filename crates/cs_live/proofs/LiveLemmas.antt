@@ -26,8 +26,8 @@ use Rattle.cs_base.specs.declared.content.limits.TheConstants.{MAX_DOCS, MAX_ROW
 use Rattle.cs_cache.specs.AnswerList.{AnswerList, answer_list}
 use Rattle.cs_engine.specs.HeldRanges.{AreHeldOver, FitsRange}
 use Rattle.cs_engine.specs.Keeping.{AreGoodFor, HoldsGood, IsKeptEntry, KeepsFitting, engine_with}
-use Rattle.cs_engine.specs.Sources.{seen}
-use Rattle.cs_engine.specs.Stocked.{corpus_in}
+use Rattle.cs_rows.specs.Sources.{seen}
+use Rattle.cs_rows.specs.Stocked.{corpus_in}
 use Rattle.cs_engine.specs.declared.held.HeldRange.{HeldRange}
 use Rattle.cs_file.specs.Indexes.{IndexView, IsIndex, StandsFor}
 use Rattle.cs_model.specs.Answers.{in_doc}

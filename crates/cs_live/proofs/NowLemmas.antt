@@ -25,8 +25,8 @@ use Rattle.cs_base.specs.declared.content.doc.Post.{Post}
 use Rattle.cs_base.proofs.ListsLemmas.{filter_alike, filter_through}
 use Rattle.cs_base.proofs.MembersLemmas.{all_then}
 use Rattle.cs_base.proofs.OrdersLemmas.{Less-from_lt}
-use Rattle.cs_engine.specs.Sources.{is_there}
-use Rattle.cs_engine.specs.Stocked.{is_between}
+use Rattle.cs_rows.specs.Sources.{is_there}
+use Rattle.cs_rows.specs.Stocked.{is_between}
 use Rattle.cs_live.specs.States.{now_posts, rank, renumbered}
 use Rattle.cs_live.proofs.NumberLemmas.{between_by, rank_at}
 

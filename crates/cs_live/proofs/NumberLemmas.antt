@@ -24,9 +24,8 @@ use Rattle.std.proofs.lemmas.Map.Keys.{Less-from_sorted}
 use Rattle.cs_base.specs.content.Orders.{AreDocs}
 use Rattle.cs_base.proofs.MembersLemmas.{all_then}
 use Rattle.cs_base.proofs.NameMaps.{name_sym}
-use Rattle.cs_engine.specs.Asking.{division}
-use Rattle.cs_engine.specs.IndexReading.{IsSpanOf}
-use Rattle.cs_engine.proofs.AskedWords.{prefix_met, word_met}
+use Rattle.cs_rows.specs.IndexReading.{division, IsSpanOf}
+use Rattle.cs_rows.proofs.AskedWords.{prefix_met, word_met}
 use Rattle.cs_file.specs.Indexes.{IndexView, IsIndex, is_met}
 use Rattle.cs_merge.specs.Vocabularies.{IsShift}
 use Rattle.cs_model.specs.Answers.{begins}

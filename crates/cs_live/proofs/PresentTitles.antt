@@ -22,9 +22,9 @@ use Rattle.std.proofs.lemmas.Bool.{cases_lt}
 use Rattle.std.proofs.lemmas.Bool.Decides.{nat_tests}
 use Rattle.std.proofs.lemmas.Option.{slice_get_past, unwrap_or-slice_get}
 use Rattle.cs_base.proofs.ListsLemmas.{filter_through}
-use Rattle.cs_engine.specs.Stocked.{present_docs, title_at}
-use Rattle.cs_engine.proofs.ListedLemmas.{get_numbered, keys_numbered}
-use Rattle.cs_engine.proofs.PresentLemmas.{is_present, is_titled}
+use Rattle.cs_rows.specs.Stocked.{present_docs, title_at}
+use Rattle.cs_rows.proofs.ListedLemmas.{get_numbered, keys_numbered}
+use Rattle.cs_rows.proofs.PresentLemmas.{is_present, is_titled}
 use Rattle.cs_live.specs.States.{titles_now}
 use Rattle.cs_model.specs.Answers.{is_listed}
 use Rattle.cs_model.specs.Corpus.{by_number}

@@ -25,8 +25,8 @@ use Rattle.cs_base.specs.declared.content.doc.Post.{Post}
 use Rattle.cs_base.specs.declared.content.doc.Row.{Row}
 use Rattle.cs_base.proofs.ListsLemmas.{all_of, all_stay, filter_alike, filter_through, filter_twice}
 use Rattle.cs_base.proofs.MembersLemmas.{all_then}
-use Rattle.cs_engine.specs.IndexReading.{stock_of}
-use Rattle.cs_engine.specs.Sources.{IsIn, is_there}
+use Rattle.cs_rows.specs.IndexReading.{stock_of}
+use Rattle.cs_rows.specs.Sources.{IsIn, is_there}
 use Rattle.cs_model.specs.Answers.{in_doc}
 use Rattle.cs_model_index.specs.Numbered.{row_of, rows_at}
 use Rattle.cs_model_index.specs.Sections.{image_of}

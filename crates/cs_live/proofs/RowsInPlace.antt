@@ -11,8 +11,8 @@ use Rattle.std.specs.List.{AllByRecursion}
 use Rattle.std.proofs.lemmas.List.{get_or-map, get_or-set_other, length-map, map-append, take-set, take_all, take_more, take_more_set}
 use Rattle.std.proofs.lemmas.List.Elements.{recursion_from_All}
 use Rattle.cs_base.specs.declared.content.doc.Post.{Post}
-use Rattle.cs_engine.specs.Sources.{is_there}
-use Rattle.cs_engine.proofs.FoundLemmas.{stays}
+use Rattle.cs_rows.specs.Sources.{is_there}
+use Rattle.cs_rows.proofs.FoundLemmas.{stays}
 use Rattle.cs_file.specs.CallAnswers.{AreScoredOf}
 use Rattle.cs_live.specs.States.{AreOwnNumbers, AreScoredNow, now_posts, renumbered}
 use Rattle.cs_live.proofs.NowLemmas.{now_append}

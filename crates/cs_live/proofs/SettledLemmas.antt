@@ -35,9 +35,9 @@ use Rattle.cs_base.specs.declared.content.doc.Post.{Post}
 use Rattle.cs_base.specs.declared.content.doc.Row.{Row}
 use Rattle.cs_base.specs.declared.content.limits.TheConstants.{MAX_WORDS}
 use Rattle.cs_base.proofs.MembersLemmas.{all_then, is_member-listed, listed_itself, listing-rises, members-alike}
-use Rattle.cs_engine.specs.IndexReading.{IsWithin, by_post, stock_of}
-use Rattle.cs_engine.specs.Sources.{IsIn, is_there}
-use Rattle.cs_engine.proofs.CountingLemmas.{stock_within}
+use Rattle.cs_rows.specs.IndexReading.{IsWithin, by_post, stock_of}
+use Rattle.cs_rows.specs.Sources.{IsIn, is_there}
+use Rattle.cs_rows.proofs.CountingLemmas.{stock_within}
 use Rattle.cs_file.specs.Indexes.{StandsFor}
 use Rattle.cs_merge.specs.Vocabularies.{AreMerged, AreOfWordSize, IsShift, nth_word}
 use Rattle.cs_merge.specs.declared.vocabulary.Merging.{Merging}

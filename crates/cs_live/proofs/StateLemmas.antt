@@ -32,19 +32,19 @@ use Rattle.cs_model_index.specs.Sections.{image_of}
 use Rattle.cs_model_kept.specs.Sharp.{lies_in}
 use Rattle.cs_tables.specs.TableListings.{with_word}
 use Rattle.cs_tables.specs.WordCounts.{AreCountable, is_chosen}
-use Rattle.cs_engine.specs.Blockwise.{AreMany}
-use Rattle.cs_engine.specs.Counting.{counted_rows}
-use Rattle.cs_engine.specs.IndexReading.{IsWithin, stock_of}
-use Rattle.cs_engine.specs.Sources.{IsIn, IsSource, IsTold, is_there, all_rows}
-use Rattle.cs_engine.specs.Sources as sources
-use Rattle.cs_engine.specs.Stocked.{IsKnown, IsStocked, is_between}
-use Rattle.cs_engine.proofs.AlikeLemmas.{any_filter}
-use Rattle.cs_engine.proofs.AskedWords.{met_holds}
-use Rattle.cs_engine.proofs.BoundedBlocks.{blocks_bounded}
-use Rattle.cs_engine.proofs.CountingLemmas.{countable, stock_within}
-use Rattle.cs_engine.proofs.FoundLemmas.{stays}
-use Rattle.cs_engine.proofs.OpenedLemmas.{opened_told}
-use Rattle.cs_engine.proofs.StockLemmas.{docs_are, score_fits, stocked}
+use Rattle.cs_rows.specs.Blockwise.{AreMany}
+use Rattle.cs_rows.specs.Counting.{counted_rows}
+use Rattle.cs_rows.specs.IndexReading.{IsWithin, stock_of}
+use Rattle.cs_rows.specs.Sources.{IsIn, IsSource, IsTold, is_there, all_rows}
+use Rattle.cs_rows.specs.Sources as sources
+use Rattle.cs_rows.specs.Stocked.{IsKnown, IsStocked, is_between}
+use Rattle.cs_rows.proofs.AlikeLemmas.{any_filter}
+use Rattle.cs_rows.proofs.AskedWords.{met_holds}
+use Rattle.cs_rows.proofs.BoundedBlocks.{blocks_bounded}
+use Rattle.cs_rows.proofs.CountingLemmas.{countable, stock_within}
+use Rattle.cs_rows.proofs.FoundLemmas.{stays}
+use Rattle.cs_rows.proofs.OpenedLemmas.{opened_told}
+use Rattle.cs_rows.proofs.StockLemmas.{docs_are, score_fits, stocked}
 use Rattle.cs_live.specs.States.{IsState, StateView, now_posts, rank, renumbered, source_now, stock_now, titles_now}
 use Rattle.cs_live.proofs.ByWordLemmas.{all_by, any_by, countable_by, swapped}
 use Rattle.cs_live.proofs.NumberLemmas.{known_word, old_met_prefix, old_met_word, old_range, old_span, rank_step}

@@ -44,8 +44,8 @@ use Rattle.cs_model.specs.Replies.{Reply}
 use Rattle.cs_cache.specs.AnswerList.{AnswerList, answer_list}
 use Rattle.cs_engine.specs.HeldRanges.{FitsRange}
 use Rattle.cs_engine.specs.Keeping.{AreGoodFor, IsAfterFor, KeepsFitting, engine_with}
-use Rattle.cs_engine.specs.Sources.{seen}
-use Rattle.cs_engine.specs.Stocked.{corpus_in}
+use Rattle.cs_rows.specs.Sources.{seen}
+use Rattle.cs_rows.specs.Stocked.{corpus_in}
 use Rattle.cs_engine.specs.declared.held.HeldRange.{HeldRange}
 use Rattle.cs_engine.specs.declared.note.Note.{Note}
 use Rattle.cs_file.specs.declared.fault.FetchFault.{FetchFault}

@@ -41,9 +41,9 @@ use Rattle.cs_tables.specs.WordCounts.{is_chosen}
 use Rattle.cs_merge.specs.Vocabularies.{AreOfWordSize, IsShift}
 use Rattle.cs_model.specs.Corpus.{by_number}
 use Rattle.cs_model_index.specs.Sections.{image_of}
-use Rattle.cs_engine.specs.IndexReading.{WhereStood, stock_of}
-use Rattle.cs_engine.specs.Sources.{IsIn, SourceView, is_there}
-use Rattle.cs_engine.specs.Stocked.{Stock, title_at}
+use Rattle.cs_rows.specs.IndexReading.{WhereStood, stock_of}
+use Rattle.cs_rows.specs.Sources.{IsIn, SourceView, is_there}
+use Rattle.cs_rows.specs.Stocked.{Stock, title_at}
 
 -- a state without changes has all numbers of its index, and no rows and titles
 pub record StateView : Type 0 where

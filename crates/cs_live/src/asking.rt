@@ -2,8 +2,12 @@
 ghost use Rattle.std.specs.Prelude.{◌≡◌, ◌≤◌, Err, [], length, IfOk};
 ghost use Rattle.std.specs.List.{All};
 ghost use Rattle.cs_base.specs.outside.Causes.{ReadsWithin};
-ghost use Rattle.cs_engine.specs.{Asking.{division, filed_titles}, HeldRanges.{FitsRange, range_bytes}, IndexReading.{OnlyReads, WhereStood}};
-ghost use Rattle.cs_engine.specs.{Skipping.{hit_reads}, Sources.{seen}, Stocked.{corpus_in}};
+ghost use Rattle.cs_rows.specs.IndexReading.{division, OnlyReads, WhereStood};
+ghost use Rattle.cs_engine.specs.Asking.{filed_titles};
+ghost use Rattle.cs_engine.specs.HeldRanges.{FitsRange, range_bytes};
+ghost use Rattle.cs_rows.specs.Skipping.{hit_reads};
+ghost use Rattle.cs_rows.specs.Sources.{seen};
+ghost use Rattle.cs_rows.specs.Stocked.{corpus_in};
 ghost use Rattle.cs_engine.specs.Keeping.{AnswersRight, AreGoodFor, KeepsAnswers, KeepsFitting, engine_with, note_plan};
 ghost use Rattle.cs_file.specs.Indexes.{HasAllBlocks};
 ghost use Rattle.cs_file.specs.declared.fault.FetchFault.TheVariants as fetches;

@@ -3,8 +3,12 @@ ghost use Rattle.std.specs.Prelude.{◌≡◌, ◌↔◌, ℕ, ◌+◌, ◌≤�
 ghost use Rattle.std.specs.Option.{ForSome};
 ghost use Rattle.cs_base.specs.outside.Causes.{ReadsWithin};
 ghost use Rattle.cs_cache.specs.AnswerList.{answer_list};
-ghost use Rattle.cs_engine.specs.{Asking.{IsChangeIn, division, filed_titles}, HeldRanges.{range_bytes}};
-ghost use Rattle.cs_engine.specs.{Keeping.{KeepsAnswers, note_plan}, Skipping.{hit_reads}, Sources.{seen}};
+ghost use Rattle.cs_rows.specs.IndexReading.{IsChangeIn, division};
+ghost use Rattle.cs_engine.specs.Asking.{filed_titles};
+ghost use Rattle.cs_engine.specs.HeldRanges.{range_bytes};
+ghost use Rattle.cs_engine.specs.Keeping.{KeepsAnswers, note_plan};
+ghost use Rattle.cs_rows.specs.Skipping.{hit_reads};
+ghost use Rattle.cs_rows.specs.Sources.{seen};
 ghost use Rattle.cs_file.specs.CallAnswers.{is_changed, is_read};
 ghost use Rattle.cs_file.specs.Indexes.{HasAllBlocks, StandsFor, CausedReads};
 ghost use Rattle.cs_file.specs.declared.fault.FetchFault.TheVariants as fetches;

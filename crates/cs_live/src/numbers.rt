@@ -3,7 +3,7 @@ ghost use Rattle.std.specs.Prelude.{◌≡◌, ◌≤◌, ◌+◌, false, true, 
 ghost use Rattle.std.specs.{List.{list_any}, List.Sorted.{IsStrictlySortedBy}, Ordering.{nat_cmp}, Cmp.Lexicographic.{slice_cmp}, Str.{bytes_eq}};
 ghost use Rattle.cs_base.specs.content.Orders.{AreDocs};
 ghost use Rattle.cs_base.specs.declared.content.limits.TheConstants.{MAX_WORDS};
-ghost use Rattle.cs_engine.specs.IndexReading.{IsSpanOf};
+ghost use Rattle.cs_rows.specs.IndexReading.{IsSpanOf};
 ghost use Rattle.cs_live.specs.States.{rank};
 
 use cs_vocab::Vocab;

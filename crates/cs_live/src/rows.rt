@@ -3,7 +3,7 @@
 ghost use Rattle.std.specs.Prelude.{◌≡◌, ◌<◌, false, true, filter, length, map, slice_index_or, take, OnOk};
 ghost use Rattle.std.specs.List.{All};
 ghost use Rattle.cs_base.specs.outside.Causes.{ReadsWithin};
-ghost use Rattle.cs_engine.specs.Sources.{is_there};
+ghost use Rattle.cs_rows.specs.Sources.{is_there};
 ghost use Rattle.cs_file.specs.CallAnswers.{IsChangeOfBlock, LeavesStore};
 ghost use Rattle.cs_file.specs.Indexes.{HasAllBlocks};
 ghost use Rattle.cs_live.specs.States.{AreOwnNumbers, AreScoredNow, IsFetched, IsScoredNow, IsState, now_posts, renumbered};

@@ -3,7 +3,7 @@ ghost use Rattle.std.specs.Prelude.{◌≡◌, ◌+◌, ◌≤◌, ◌<◌, ◌+
 ghost use Rattle.std.specs.{List.{All}, List.Sorted.{IsNonDecreasingBy}, Vec.{vec_capacity, vec_len}};
 ghost use Rattle.cs_base.specs.content.Orders.{AreDocs};
 ghost use Rattle.cs_base.specs.declared.content.doc.Post.{Post};
-ghost use Rattle.cs_engine.specs.Stocked.{is_between};
+ghost use Rattle.cs_rows.specs.Stocked.{is_between};
 ghost use Rattle.cs_live.specs.{Settling.{row_posts}, States.{AreByWord, AreOwnNumbers, renumbered}};
 
 use crate::numbers::is_less;

@@ -33,7 +33,7 @@ pub struct State {
 
 impl Model for State {
     ghost use Rattle.cs_base.specs.content.Members.{members_in};
-    ghost use Rattle.cs_engine.specs.IndexReading.{by_post};
+    ghost use Rattle.cs_rows.specs.IndexReading.{by_post};
     ghost use Rattle.cs_live.specs.States.{IsState, StateView};
 
     ghost Value = { StateView };

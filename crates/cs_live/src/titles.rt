@@ -2,7 +2,7 @@
 ghost use Rattle.std.specs.Prelude.{◌≡◌, ◌<◌, ◌+◌, true, [], length, nat_lt, slice_index_or, if◌then◌else◌, IfOk};
 ghost use Rattle.std.specs.{List.{All}, Str.{is_utf8}};
 ghost use Rattle.cs_base.specs.outside.Causes.{ReadsWithin};
-ghost use Rattle.cs_engine.specs.IndexReading.{OnlyReads};
+ghost use Rattle.cs_rows.specs.IndexReading.{OnlyReads};
 ghost use Rattle.cs_file.specs.Indexes.{HasAllBlocks};
 ghost use Rattle.cs_live.specs.States.{IsTitle};
 

@@ -20,7 +20,7 @@
 use Rattle.std.specs.Prelude.{◌≡◌, ◌≢◌, ◌⊎◌, ℕ, List, [], ◌∷◌, ◌++◌, All, Contains, Option, Some}
 use Rattle.cs_base.specs.outside.Causes.{Rose}
 use Rattle.cs_base.specs.outside.Outside.{Grew, GrewByPrefix}
-use Rattle.cs_engine.specs.Asking.{BreaksIndex}
+use Rattle.cs_rows.specs.IndexReading.{BreaksIndex}
 use Rattle.cs_file.specs.Indexes.{IndexView}
 use Rattle.cs_model.specs.Faults.{changed_text}
 use Rattle.cs_model.specs.Outputs.{IsChangedText, memory_text, put_of, read_text}

@@ -2,8 +2,8 @@ use Rattle.std.proofs.Common.{◌∙◌, [], ap, if◌then◌else◌}
 use Rattle.cs_query.specs.RequestView.{asked}
 use Rattle.cs_engine.specs.HeldRanges.{FitsRange, IsHeldOver}
 use Rattle.cs_engine.specs.Keeping.{engine_with, wants_memory}
-use Rattle.cs_engine.specs.Sources.{seen}
-use Rattle.cs_engine.specs.Stocked.{corpus_in}
+use Rattle.cs_rows.specs.Sources.{seen}
+use Rattle.cs_rows.specs.Stocked.{corpus_in}
 use Rattle.cs_engine.proofs.LentLemmas.{same_after}
 use Rattle.cs_engine.proofs.RangeLemmas.{held_if}
 use Rattle.cs_engine.proofs.ask.ask_over.Goals as goal

@@ -6,18 +6,19 @@ use Rattle.cs_model_kept.specs.Due.{met_by}
 use Rattle.cs_model_kept.specs.KeptList.{after, kept_at}
 use Rattle.cs_model_kept.specs.Sharp.{sharp_by}
 use Rattle.cs_query.specs.RequestView.{asked}
-use Rattle.cs_engine.specs.Asking.{division, filed_titles, titles_read}
+use Rattle.cs_rows.specs.IndexReading.{division}
+use Rattle.cs_engine.specs.Asking.{filed_titles, titles_read}
 use Rattle.cs_engine.specs.HeldRanges.{FitsRange, IsHeldOver}
 use Rattle.cs_engine.specs.Keeping.{HoldsGood, IsKeptBehind, KeepsFitting, note_plan}
-use Rattle.cs_engine.specs.Skipping.{hit_of_facets}
-use Rattle.cs_engine.specs.Sources.{seen}
-use Rattle.cs_engine.specs.Stocked.{corpus_in}
+use Rattle.cs_rows.specs.Skipping.{hit_of_facets}
+use Rattle.cs_rows.specs.Sources.{seen}
+use Rattle.cs_rows.specs.Stocked.{corpus_in}
 use Rattle.cs_engine.proofs.CountedRanges.{counted_fits, counted_held}
-use Rattle.cs_engine.proofs.InsideLemmas.{facets_hit_less}
+use Rattle.cs_rows.proofs.InsideLemmas.{facets_hit_less}
 use Rattle.cs_engine.proofs.KeepingLemmas.{after_is, behind_fits, good_behind, is_note_plan, kept_behind, kept_is, was_had}
 use Rattle.cs_engine.proofs.LentLemmas.{due_is, err_due, refusal_right}
 use Rattle.cs_engine.proofs.RangeLemmas.{still_held}
-use Rattle.cs_engine.proofs.WalkLemmas.{within_both, within_more}
+use Rattle.cs_rows.proofs.WalkLemmas.{within_both, within_more}
 use Rattle.cs_engine.proofs.ask.noted_reply.Goals as goal
 
 pub show-shown-requires-clause-held : goal.show-shown-requires-clause-held

@@ -5,10 +5,10 @@ use Rattle.cs_base.specs.declared.content.doc.Post.{Post}
 use Rattle.cs_base.specs.declared.content.doc.Scored.{Scored}
 use Rattle.cs_base.specs.declared.content.limits.TheConstants.{MAX_PARTS}
 use Rattle.cs_base.specs.declared.content.scores.TheConstants.{MAX_ROW_SCORE}
-use Rattle.cs_engine.specs.Stocked.{base_docs, present_docs}
-use Rattle.cs_engine.specs.Steps.{IsBaseOf}
+use Rattle.cs_rows.specs.Stocked.{base_docs, present_docs}
+use Rattle.cs_rows.specs.Steps.{IsBaseOf}
 use Rattle.cs_engine.proofs.FacetLemmas.{chosen_facet, chosen_kept, facet_counts, known_docs, known_kept}
-use Rattle.cs_engine.proofs.FoundLemmas.{docs_rise}
+use Rattle.cs_rows.proofs.FoundLemmas.{docs_rise}
 use Rattle.cs_engine.proofs.facets.count_facet.Goals as goal
 
 pub keep_docs-requires-clause-docs_sorted : goal.keep_docs-requires-clause-docs_sorted

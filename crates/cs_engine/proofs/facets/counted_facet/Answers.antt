@@ -2,14 +2,14 @@ use Rattle.std.proofs.Common.{◌*◌, arith, subst, true}
 use Rattle.std.specs.Prelude.{filter}
 use Rattle.cs_base.specs.declared.content.limits.TheConstants.{MAX_PARTS}
 use Rattle.cs_base.specs.declared.content.scores.TheConstants.{MAX_ROW_SCORE}
-use Rattle.cs_engine.specs.Blockwise.{CountsTable}
-use Rattle.cs_engine.specs.Counting.{in_listed}
+use Rattle.cs_rows.specs.Blockwise.{CountsTable}
+use Rattle.cs_rows.specs.Counting.{in_listed}
 use Rattle.cs_engine.specs.HeldRanges.{FitsHolding, FitsRange, IsHeldOver, IsHoldingOver}
-use Rattle.cs_engine.specs.Sources.{seen}
-use Rattle.cs_engine.proofs.PartSteps.{base_in}
+use Rattle.cs_rows.specs.Sources.{seen}
+use Rattle.cs_rows.proofs.PartSteps.{base_in}
 use Rattle.cs_engine.proofs.RangeLemmas.{goes_by, held_more, others_go, still_held, was_held}
-use Rattle.cs_engine.proofs.SkippingLemmas.{sieve_of}
-use Rattle.cs_engine.proofs.WalkLemmas.{within_more}
+use Rattle.cs_rows.proofs.SkippingLemmas.{sieve_of}
+use Rattle.cs_rows.proofs.WalkLemmas.{within_more}
 use Rattle.cs_engine.proofs.facets.counted_facet.Goals as goal
 
 -- ---- what was held

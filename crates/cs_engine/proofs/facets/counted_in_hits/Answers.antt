@@ -3,10 +3,10 @@ use Rattle.std.specs.Prelude.{All, filter}
 use Rattle.std.proofs.lemmas.Bool.{cases_eq}
 use Rattle.cs_tables.specs.TableListings.{post_table}
 use Rattle.cs_tables.specs.WordCounts.{AreCountable, HasCounted, is_chosen}
-use Rattle.cs_engine.specs.Counting.{counted_rows}
-use Rattle.cs_engine.specs.Packing.{post_of_key, word_of_key}
-use Rattle.cs_engine.proofs.OverSources.{chosen_countable, chosen_table, run_countable}
-use Rattle.cs_engine.proofs.PackingLemmas.{as_they_come, held_chosen, held_known, keys_between}
+use Rattle.cs_rows.specs.Counting.{counted_rows}
+use Rattle.cs_rows.specs.Packing.{post_of_key, word_of_key}
+use Rattle.cs_rows.proofs.OverSources.{chosen_countable, chosen_table, run_countable}
+use Rattle.cs_rows.proofs.PackingLemmas.{as_they_come, held_chosen, held_known, keys_between}
 use Rattle.cs_engine.proofs.facets.counted_in_hits.Goals as goal
 
 pub count_keys-requires : goal.count_keys-requires

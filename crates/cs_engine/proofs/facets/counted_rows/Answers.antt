@@ -1,6 +1,6 @@
 use Rattle.std.proofs.Common.{refl}
 use Rattle.std.specs.Prelude.{filter}
-use Rattle.cs_engine.specs.Counting.{in_listed}
+use Rattle.cs_rows.specs.Counting.{in_listed}
 use Rattle.cs_engine.proofs.FacetLemmas.{countable_kept}
 use Rattle.cs_engine.proofs.facets.counted_rows.Goals as goal
 

@@ -1,7 +1,7 @@
 use Rattle.std.proofs.Common.{◌≡◌, ◌∙◌, ap, arith, get_or, inl, inr, sym, subst, true}
 use Rattle.std.proofs.lemmas.Bool.{cases_eq}
-use Rattle.cs_engine.specs.Skipping.{may_hit, no_head}
-use Rattle.cs_engine.proofs.SkippingLemmas.{reached}
+use Rattle.cs_rows.specs.Skipping.{may_hit, no_head}
+use Rattle.cs_rows.proofs.SkippingLemmas.{reached}
 use Rattle.cs_engine.proofs.facets.reaches_all.Goals as goal
 
 pub head-requires : goal.head-requires

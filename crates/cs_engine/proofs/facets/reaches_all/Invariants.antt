@@ -1,5 +1,5 @@
 use Rattle.std.proofs.Common.{◌≡◌, ◌<◌, ◌≤◌, ℕ, get_or, true}
-use Rattle.cs_engine.specs.Skipping.{may_hit, no_head}
+use Rattle.cs_rows.specs.Skipping.{may_hit, no_head}
 use Rattle.cs_engine.proofs.facets.reaches_all.Given as goal
 
 abbrev pub invariant-loop-k : goal.invariant-loop-k

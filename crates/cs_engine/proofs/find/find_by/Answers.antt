@@ -6,15 +6,14 @@ use Rattle.cs_model_kept.specs.Due.{met_by, met_of_query}
 use Rattle.cs_model_kept.specs.Sharp.{sharp_by}
 use Rattle.cs_model_kept.specs.KeptList.{is_same}
 use Rattle.cs_model_kept.specs.KeptListLaws.{before_last}
-use Rattle.cs_engine.specs.Asking.{division}
-use Rattle.cs_engine.specs.Keeping.{entry_with}
-use Rattle.cs_engine.specs.Skipping.{hit_of_last}
-use Rattle.cs_engine.specs.Steps.{last_is_positive}
-use Rattle.cs_engine.specs.Stocked.{corpus_in}
+use Rattle.cs_rows.specs.IndexReading.{division}
+use Rattle.cs_rows.specs.Steps.{entry_with, last_is_positive}
+use Rattle.cs_rows.specs.Skipping.{hit_of_last}
+use Rattle.cs_rows.specs.Stocked.{corpus_in}
 use Rattle.cs_engine.proofs.LentLemmas.{extend_lent, narrow_lent, narrow_typed, same_lent, several_parts}
 use Rattle.cs_engine.proofs.SharpReads.{by_hits}
-use Rattle.cs_engine.proofs.InsideLemmas.{last_hits_less}
-use Rattle.cs_engine.proofs.WalkLemmas.{within_more}
+use Rattle.cs_rows.proofs.InsideLemmas.{last_hits_less}
+use Rattle.cs_rows.proofs.WalkLemmas.{within_more}
 use Rattle.cs_engine.proofs.PlansLemmas.{first_base, first_in, found_by_entry, is_used}
 use Rattle.cs_engine.proofs.find.find_by.Goals as goal
 

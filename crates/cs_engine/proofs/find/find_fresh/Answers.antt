@@ -5,13 +5,13 @@ use Rattle.cs_base.specs.declared.content.query.Query.{out-Query}
 use Rattle.cs_base.specs.declared.content.scores.TheConstants.{MAX_ROW_SCORE}
 use Rattle.cs_model.specs.Keys.{last_of}
 use Rattle.cs_model_kept.specs.KeptListLaws.{before_last}
-use Rattle.cs_engine.specs.Asking.{division}
+use Rattle.cs_rows.specs.IndexReading.{division}
 use Rattle.cs_engine.specs.Finding.{AsksAlone}
-use Rattle.cs_engine.specs.Sources.{seen}
-use Rattle.cs_engine.specs.Steps.{IsBaseOf}
-use Rattle.cs_engine.proofs.InsideLemmas.{last_hits_less}
+use Rattle.cs_rows.specs.Sources.{seen}
+use Rattle.cs_rows.specs.Steps.{IsBaseOf}
+use Rattle.cs_rows.proofs.InsideLemmas.{last_hits_less}
 use Rattle.cs_engine.proofs.PlansLemmas.{all_met, first_parts, nothing_over, nothing_own}
-use Rattle.cs_engine.proofs.WalkLemmas.{within_both, within_more}
+use Rattle.cs_rows.proofs.WalkLemmas.{within_both, within_more}
 use Rattle.cs_engine.proofs.WideLemmas.{alone_met}
 use Rattle.cs_engine.proofs.find.find_fresh.Goals as goal
 

@@ -2,7 +2,7 @@ use Rattle.std.proofs.Common.{◌≡◌, ◌-◌, List, length, take, ap, ◌∙
 use Rattle.std.proofs.lemmas.Result.{IfOk-weaker}
 use Rattle.cs_base.specs.declared.content.query.Part.{Part}
 use Rattle.cs_base.specs.declared.content.query.Query.{out-Query}
-use Rattle.cs_engine.specs.Steps.{end_positive, posts_hits}
+use Rattle.cs_rows.specs.Steps.{end_positive, posts_hits}
 use Rattle.cs_engine.proofs.PlansLemmas.{ends_first}
 use Rattle.cs_engine.proofs.find_kept.hits_before_last.Goals as goal
 

@@ -2,7 +2,7 @@ use Rattle.std.proofs.Common.{◌≡◌, ◌∙◌, subst}
 use Rattle.std.specs.Prelude.{filter, IfSome}
 use Rattle.cs_model.specs.Answers.{begins}
 use Rattle.cs_model_index.specs.Numbered.{word_at}
-use Rattle.cs_engine.specs.Sources.{seen}
+use Rattle.cs_rows.specs.Sources.{seen}
 use Rattle.cs_vocab.specs.Ranges.{IsRange}
 use Rattle.cs_engine.proofs.PlansLemmas.{narrowed_rows}
 use Rattle.cs_engine.proofs.find_kept.narrowed.Goals as goal

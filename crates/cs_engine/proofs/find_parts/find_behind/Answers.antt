@@ -4,9 +4,9 @@ use Rattle.cs_base.specs.declared.content.limits.TheConstants.{MAX_PARTS}
 use Rattle.cs_base.specs.declared.content.query.Query.{out-Query}
 use Rattle.cs_base.specs.declared.content.scores.TheConstants.{MAX_ROW_SCORE}
 use Rattle.cs_engine.proofs.LooseLemmas.{found_counts, large_entry, table_counted, table_there}
-use Rattle.cs_engine.specs.Counting.{in_listed}
-use Rattle.cs_engine.specs.Stocked.{is_between}
-use Rattle.cs_engine.proofs.PartSteps.{base_weaker}
+use Rattle.cs_rows.specs.Counting.{in_listed}
+use Rattle.cs_rows.specs.Stocked.{is_between}
+use Rattle.cs_rows.proofs.PartSteps.{base_weaker}
 use Rattle.cs_engine.proofs.WideLemmas.{wide_fits, wide_range}
 use Rattle.cs_engine.proofs.find_parts.find_behind.Goals as goal
 

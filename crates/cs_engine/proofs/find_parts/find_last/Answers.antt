@@ -5,15 +5,15 @@ use Rattle.cs_base.specs.declared.content.query.Part.{out-Part}
 use Rattle.cs_base.specs.declared.content.query.Query.{out-Query}
 use Rattle.cs_base.specs.declared.content.scores.TheConstants.{MAX_ROW_SCORE}
 use Rattle.cs_model.specs.Answers.{rows_of_part}
-use Rattle.cs_engine.specs.Asking.{division}
-use Rattle.cs_engine.specs.Keeping.{FitsQuery, IsEntryOver, entry_with}
-use Rattle.cs_engine.specs.Sources.{seen}
-use Rattle.cs_engine.specs.Steps.{IsStep}
-use Rattle.cs_engine.specs.Stocked.{corpus_in}
-use Rattle.cs_engine.proofs.NoHitLemmas.{bare_entry, lists_no, none_fits, none_step}
-use Rattle.cs_engine.proofs.PartSteps.{base_weaker}
+use Rattle.cs_rows.specs.IndexReading.{division}
+use Rattle.cs_engine.specs.Keeping.{FitsQuery, IsEntryOver}
+use Rattle.cs_rows.specs.Steps.{entry_with, IsStep}
+use Rattle.cs_rows.specs.Sources.{seen}
+use Rattle.cs_rows.specs.Stocked.{corpus_in}
+use Rattle.cs_rows.proofs.NoHitLemmas.{bare_entry, lists_no, none_fits, none_step}
+use Rattle.cs_rows.proofs.PartSteps.{base_weaker}
 use Rattle.cs_engine.proofs.PlansLemmas.{ends_last, is_last, last_hit, more_by_words, more_fits, more_told}
-use Rattle.cs_engine.proofs.WalkLemmas.{within_more}
+use Rattle.cs_rows.proofs.WalkLemmas.{within_more}
 use Rattle.cs_engine.proofs.find_parts.find_last.Goals as goal
 
 -- ---- no hit

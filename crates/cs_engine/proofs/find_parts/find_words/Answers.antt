@@ -6,15 +6,14 @@ use Rattle.cs_base.specs.declared.content.query.Query.{out-Query}
 use Rattle.cs_base.specs.declared.content.scores.TheConstants.{MAX_ROW_SCORE}
 use Rattle.cs_base.specs.declared.content.scores.Weights.{Weights}
 use Rattle.cs_tables.specs.WordCounts.{is_chosen}
-use Rattle.cs_engine.specs.Packing.{IsPacked, key_of}
-use Rattle.cs_engine.specs.IndexReading.{run_of}
-use Rattle.cs_engine.specs.Sources.{seen}
-use Rattle.cs_engine.proofs.CountingLemmas.{listed_in}
+use Rattle.cs_rows.specs.Packing.{IsPacked, key_of}
+use Rattle.cs_rows.specs.IndexReading.{run_of}
+use Rattle.cs_rows.specs.Sources.{seen}
+use Rattle.cs_rows.proofs.CountingLemmas.{listed_in}
 use Rattle.cs_engine.proofs.LooseLemmas.{chosen_entry, entry_fits}
-use Rattle.cs_engine.proofs.SkippingLemmas.{few_hit, sieve_of, two_runs}
-use Rattle.cs_engine.proofs.WalkLemmas.{within_both}
-use Rattle.cs_engine.proofs.PackingLemmas.{all_in_room, chosen_are, held_chosen, held_known, held_packed, ordered_by, ordered_passed, ordered_told, ordered_within, run_longer}
-use Rattle.cs_engine.proofs.PackingLemmas.{with_held}
+use Rattle.cs_rows.proofs.SkippingLemmas.{few_hit, sieve_of, two_runs}
+use Rattle.cs_rows.proofs.WalkLemmas.{within_both}
+use Rattle.cs_rows.proofs.PackingLemmas.{all_in_room, chosen_are, held_chosen, held_known, held_packed, ordered_by, ordered_passed, ordered_told, ordered_within, run_longer, with_held}
 use Rattle.cs_engine.proofs.find_parts.find_words.Goals as goal
 
 -- ---- what blocks are skipped by

@@ -1,6 +1,6 @@
 use Rattle.std.proofs.Common.{false, subst}
 use Rattle.cs_engine.specs.HeldRanges.{FitsHolding, FitsRange, IsHeldOver, IsHoldingOver}
-use Rattle.cs_engine.specs.Sources.{seen}
+use Rattle.cs_rows.specs.Sources.{seen}
 use Rattle.cs_engine.proofs.RangeLemmas.{goes_by, others_go, was_held}
 use Rattle.cs_engine.proofs.find_range.counted_words.Goals as goal
 

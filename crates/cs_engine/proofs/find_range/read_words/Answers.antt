@@ -1,8 +1,8 @@
 use Rattle.std.proofs.Common.{ap, arith}
 use Rattle.cs_base.specs.declared.content.doc.Base.TheVariants as base
-use Rattle.cs_engine.specs.Skipping.{hit_blocks}
-use Rattle.cs_engine.proofs.SkippingLemmas.{all_reach, few_hit}
-use Rattle.cs_engine.proofs.WalkLemmas.{within_more}
+use Rattle.cs_rows.specs.Skipping.{hit_blocks}
+use Rattle.cs_rows.proofs.SkippingLemmas.{all_reach, few_hit}
+use Rattle.cs_rows.proofs.WalkLemmas.{within_more}
 use Rattle.cs_engine.proofs.find_range.read_words.Goals as goal
 
 pub found_behind-requires-clause-gathered : goal.found_behind-requires-clause-gathered

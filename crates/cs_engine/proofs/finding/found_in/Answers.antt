@@ -1,6 +1,5 @@
 use Rattle.std.proofs.Common.{◌∙◌, ap}
-use Rattle.cs_engine.specs.Keeping.{entry_with}
-use Rattle.cs_engine.specs.Steps.{end_positive}
+use Rattle.cs_rows.specs.Steps.{entry_with, end_positive}
 use Rattle.cs_engine.proofs.AnsweringLemmas.{first_in}
 use Rattle.cs_engine.proofs.PlansLemmas.{found_by_entry, hits_are_in}
 use Rattle.cs_engine.proofs.finding.found_in.Goals as goal

@@ -1,8 +1,8 @@
 use Rattle.std.proofs.Common.{sym, subst, true≢false}
 use Rattle.cs_engine.specs.Finding.{CanOwn}
 use Rattle.cs_engine.specs.Keeping.{IsEntryOver}
-use Rattle.cs_engine.specs.Sources.{seen}
-use Rattle.cs_engine.specs.Stocked.{corpus_in}
+use Rattle.cs_rows.specs.Sources.{seen}
+use Rattle.cs_rows.specs.Stocked.{corpus_in}
 use Rattle.cs_engine.proofs.finding.found_with.Goals as goal
 
 pub found_in-requires : goal.found_in-requires

@@ -1,5 +1,5 @@
 use Rattle.std.proofs.Common.{◌≡◌, ◌++◌, drop, map}
-use Rattle.cs_engine.specs.Skipping.{bare_facet}
+use Rattle.cs_rows.specs.Skipping.{bare_facet}
 use Rattle.cs_engine.proofs.replies.bare_facets.Given as goal
 
 abbrev pub invariant-loop-name : goal.invariant-loop-name

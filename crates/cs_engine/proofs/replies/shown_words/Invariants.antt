@@ -1,5 +1,5 @@
 use Rattle.std.proofs.Common.{◌≡◌, ◌++◌, drop, map}
-use Rattle.cs_engine.specs.Stocked.{shown_at}
+use Rattle.cs_rows.specs.Stocked.{shown_at}
 use Rattle.cs_engine.proofs.replies.shown_words.Given as goal
 
 abbrev pub invariant-loop-completion : goal.invariant-loop-completion

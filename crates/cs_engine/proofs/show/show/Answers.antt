@@ -8,10 +8,10 @@ use Rattle.cs_model.specs.Replies.{HitShown}
 use Rattle.cs_model.specs.Requests.{hit_shown}
 use Rattle.cs_query.specs.RequestView.{asked}
 use Rattle.cs_tables.specs.declared.tables.Completion.{Completion}
-use Rattle.cs_engine.specs.Stocked.{base_hits, corpus_in, present_docs, shown_at}
+use Rattle.cs_rows.specs.Stocked.{base_hits, corpus_in, present_docs, shown_at}
 use Rattle.cs_engine.proofs.AnsweringLemmas.{hits_few, reply_told, shown_in, words_as_shown}
 use Rattle.cs_engine.proofs.TitlesRead.{err_reads, filed_few, filed_shown}
-use Rattle.cs_engine.proofs.WalkLemmas.{within_both}
+use Rattle.cs_rows.proofs.WalkLemmas.{within_both}
 use Rattle.cs_engine.proofs.show.show.Goals as goal
 
 pub shown_words-requires-clause-texts : goal.shown_words-requires-clause-texts

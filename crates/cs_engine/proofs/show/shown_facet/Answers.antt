@@ -2,11 +2,11 @@ use Rattle.std.proofs.Common.{◌<◌, ◌∙◌, [], ap, map, length, refl, sym
 use Rattle.std.specs.Prelude.{All}
 use Rattle.cs_model.specs.Collection.{named}
 use Rattle.cs_tables.specs.declared.tables.Completion.{Completion}
-use Rattle.cs_engine.specs.Stocked.{shown_at}
+use Rattle.cs_rows.specs.Stocked.{shown_at}
 use Rattle.cs_engine.proofs.FacetTables.{facet_counted}
-use Rattle.cs_engine.proofs.InsideLemmas.{facet_sharp}
+use Rattle.cs_rows.proofs.InsideLemmas.{facet_sharp}
 use Rattle.cs_engine.proofs.LooseLemmas.{table_there}
-use Rattle.cs_engine.proofs.WalkLemmas.{within_more}
+use Rattle.cs_rows.proofs.WalkLemmas.{within_more}
 use Rattle.cs_engine.proofs.show.shown_facet.Goals as goal
 
 pub counted_facet-requires-clause-words : goal.counted_facet-requires-clause-words

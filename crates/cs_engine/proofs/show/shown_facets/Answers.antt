@@ -1,21 +1,23 @@
-use Rattle.std.proofs.Common.{◌∙◌, ◌++◌, List, map, ap, refl, sym, arith}
-use Rattle.cs_base.specs.declared.content.doc.Base.{Base}
+use Rattle.std.proofs.Common.{◌∙◌, ◌≡◌, ◌⊎◌, ◌++◌, true, List, map, ap, refl, subst, sym, arith}
+use Rattle.std.specs.Prelude.{All}
 use Rattle.cs_model.specs.Replies.{FacetShown}
-use Rattle.cs_engine.specs.Stocked.{facet_at}
+use Rattle.cs_rows.specs.Stocked.{facet_at}
 use Rattle.cs_query.specs.RequestView.{asked}
-use Rattle.cs_engine.specs.Skipping.{bare_facet}
+use Rattle.cs_rows.specs.Skipping.{bare_facet, lists_none}
+use Rattle.cs_engine.specs.Asking.{HasNoWord}
 use Rattle.cs_engine.proofs.AnsweringLemmas.{shown_more}
-use Rattle.cs_engine.proofs.NoHitLemmas.{bare_is, lists_no}
-use Rattle.cs_engine.proofs.WalkLemmas.{list_begins, list_goes_on}
+use Rattle.cs_engine.proofs.FacetTables.{bare_told}
+use Rattle.cs_rows.proofs.WalkLemmas.{list_begins, list_goes_on, list_stops}
 use Rattle.cs_engine.proofs.show.shown_facets.Goals as goal
 
-pub returns-then-lists_none-clause-told : goal.returns-then-lists_none-clause-told
-returns-then-lists_none-clause-told g c b is stands held =
-    let s = (g.I.Source.view c.args.over.index.now).stock b in
-    let cut = c.args.over.request.now.completions in
+pub returns-then-branch-clause-told : goal.returns-then-branch-clause-told
+returns-then-branch-clause-told g c b is stands held =
+    let v = g.I.Source.view c.args.over.index.now in
     let names = (asked c.args.over.request.now).facets in
-    let none = lists_no c.args.base.now (sym c.lists_none.ensures ∙ c.if-lists_none.true) in
-    c.in_ok-bare.ensures ∙ ap (map bare_facet) c.as_slice-then-lists_none.ensures ∙ bare_is s cut names ∙ ap (λ (x : Base). map (facet_at s x cut) names) (sym none)
+    let bare = c.in_ok-are_bare.ensures c.if-branch.true in
+    c.in_ok-bare.ensures ∙ ap (map bare_facet) c.as_slice-then-branch.ensures
+    ∙ bare_told b v stands c.requires.opened.source c.args.base.now c.args.over.request.now.completions names
+    (subst (λ ns. (lists_none c.args.base.now ≡ true) ⊎ All (HasNoWord v.words) ns) c.as_slice-2.ensures bare)
 
 pub loop-name-init : goal.loop-name-init
 loop-name-init g c = record {
@@ -45,3 +47,7 @@ loop-name-preserved g c =
 pub returns-clause-reads : goal.returns-clause-reads
 returns-clause-reads g c = let walk = c.loop-name.invariant.walk in
     record { later = walk.later; within = (let few = walk.reads in omega (arith, few)) }
+
+pub returns-in_err-push-clause-reads : goal.returns-in_err-push-clause-reads
+returns-in_err-push-clause-reads g c =
+    list_stops c.loop-name.invariant.walk c.loop-name-test.true c.name-item.is c.shown_facet.ensures.reads

@@ -1,13 +1,12 @@
 use Rattle.std.proofs.Common.{◌≡◌, ◌++◌, map, drop}
 use Rattle.std.specs.Prelude.{All}
 use Rattle.cs_query.specs.RequestView.{asked}
-use Rattle.cs_engine.specs.Asking.{division}
+use Rattle.cs_rows.specs.IndexReading.{division, WhereStood}
 use Rattle.cs_engine.specs.HeldRanges.{AreHeldOver, FitsRange}
-use Rattle.cs_engine.specs.IndexReading.{WhereStood}
-use Rattle.cs_engine.specs.Skipping.{hit_of_facet, hit_of_facets}
-use Rattle.cs_engine.specs.Sources.{seen}
-use Rattle.cs_engine.specs.Stocked.{facet_at}
-use Rattle.cs_engine.proofs.WalkLemmas.{ListWalk}
+use Rattle.cs_rows.specs.Skipping.{hit_of_facet, hit_of_facets}
+use Rattle.cs_rows.specs.Sources.{seen}
+use Rattle.cs_rows.specs.Stocked.{facet_at}
+use Rattle.cs_rows.proofs.WalkLemmas.{ListWalk}
 use Rattle.cs_engine.proofs.show.shown_facets.Given as goal
 
 abbrev pub invariant-loop-name : goal.invariant-loop-name

@@ -3,10 +3,10 @@ use Rattle.std.proofs.lemmas.List.{get_or_default}
 use Rattle.cs_base.specs.declared.content.doc.Scored.{Scored}
 use Rattle.cs_model.specs.Replies.{HitShown}
 use Rattle.cs_model.specs.Requests.{hit_shown}
-use Rattle.cs_engine.specs.Stocked.{corpus_in}
+use Rattle.cs_rows.specs.Stocked.{corpus_in}
 use Rattle.cs_engine.proofs.AnsweringLemmas.{docs_more, shown_more, title_told}
 use Rattle.cs_engine.proofs.TitlesRead.{filed_sum}
-use Rattle.cs_engine.proofs.WalkLemmas.{fails_behind, hands_on, list_begins, list_goes_on, list_stops, read_fails}
+use Rattle.cs_rows.proofs.WalkLemmas.{fails_behind, hands_on, list_begins, list_goes_on, list_stops, read_fails}
 use Rattle.cs_engine.proofs.show.shown_hits.Goals as goal
 
 abbrev none : Scored

@@ -1,10 +1,10 @@
 use Rattle.std.proofs.Common.{◌≡◌, ◌++◌, map, drop}
 use Rattle.cs_base.specs.declared.content.doc.Scored.{Scored}
 use Rattle.cs_model.specs.Requests.{hit_shown}
-use Rattle.cs_engine.specs.IndexReading.{WhereStood}
-use Rattle.cs_engine.specs.Stocked.{corpus_in}
-use Rattle.cs_engine.specs.Sources.{filed_hits, title_reads}
-use Rattle.cs_engine.proofs.WalkLemmas.{ListWalk}
+use Rattle.cs_rows.specs.IndexReading.{WhereStood}
+use Rattle.cs_rows.specs.Stocked.{corpus_in}
+use Rattle.cs_rows.specs.Sources.{filed_hits, title_reads}
+use Rattle.cs_rows.proofs.WalkLemmas.{ListWalk}
 use Rattle.cs_engine.proofs.show.shown_hits.Given as goal
 
 abbrev pub invariant-loop-hit : goal.invariant-loop-hit

@@ -1,6 +1,6 @@
 use Rattle.std.proofs.Common.{true≢false, sym, ◌∙◌, arith}
-use Rattle.cs_engine.proofs.AskedWords.{word_there, no_span}
-use Rattle.cs_engine.proofs.AtomsLemmas.{span_word}
+use Rattle.cs_rows.proofs.AskedWords.{word_there, no_span}
+use Rattle.cs_rows.proofs.AtomsLemmas.{span_word}
 use Rattle.cs_live.proofs.numbers.own_span.Goals as goal
 
 pub returns-in-Some-clause-span : goal.returns-in-Some-clause-span

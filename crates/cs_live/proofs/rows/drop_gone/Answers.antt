@@ -1,8 +1,8 @@
 use Rattle.std.proofs.Common.{rules, sym}
 use Rattle.std.proofs.lemmas.Fn.{filter_same}
 use Rattle.std.proofs.lemmas.List.Elements.{recursion_from_All}
-use Rattle.cs_engine.specs.Sources.{is_there}
-use Rattle.cs_engine.proofs.FoundLemmas.{stays}
+use Rattle.cs_rows.specs.Sources.{is_there}
+use Rattle.cs_rows.proofs.FoundLemmas.{stays}
 use Rattle.cs_live.proofs.rows.drop_gone.Goals as goal
 
 pub returns-then-whole : goal.returns-then-whole

@@ -1,7 +1,7 @@
 use Rattle.std.proofs.Common.{◌≡◌, ◌∙◌, ◌<◌, false, true, ap, get_or, length, subst, sym, take, arith}
 use Rattle.std.specs.Prelude.{All, filter}
 use Rattle.std.proofs.lemmas.List.Elements.{All-weaker}
-use Rattle.cs_engine.specs.Sources.{is_there}
+use Rattle.cs_rows.specs.Sources.{is_there}
 use Rattle.cs_file.specs.CallAnswers.{IsRanged}
 use Rattle.cs_file.specs.Indexes.{block_posts}
 use Rattle.cs_tables.specs.WordCounts.{is_chosen}

@@ -3,7 +3,7 @@ use Rattle.std.specs.Prelude.{All}
 use Rattle.std.proofs.lemmas.List.{with_items_is}
 use Rattle.std.proofs.lemmas.List.Elements.{All-filter}
 use Rattle.cs_base.specs.declared.content.doc.Post.{Post}
-use Rattle.cs_engine.specs.Sources.{is_there}
+use Rattle.cs_rows.specs.Sources.{is_there}
 use Rattle.cs_live.specs.States.{renumbered}
 use Rattle.cs_live.proofs.rows.put_now.Goals as goal
 

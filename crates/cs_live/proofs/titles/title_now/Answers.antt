@@ -1,6 +1,6 @@
 use Rattle.std.proofs.Common.{◌≡◌, ◌∙◌, ◌<◌, ◌≤◌, ◌-◌, [], ap, ap₂, get_or, subst}
 use Rattle.cs_file.specs.Indexes.{IsIndex}
-use Rattle.cs_engine.proofs.WalkLemmas.{title_read}
+use Rattle.cs_rows.proofs.WalkLemmas.{title_read}
 use Rattle.cs_live.proofs.FetchedLemmas.{title_new, title_none, title_old}
 use Rattle.cs_live.proofs.titles.title_now.Given as given
 use Rattle.cs_live.proofs.titles.title_now.Goals as goal

@@ -7,11 +7,11 @@ use Rattle.cs_model_index.specs.Sections.{file_corpus}
 use Rattle.cs_model_kept.specs.Due.{due}
 use Rattle.cs_model_kept.specs.Sharp.{sharp}
 use Rattle.cs_query.specs.RequestView.{asked}
-use Rattle.cs_engine.specs.Asking.{division, filed_titles, titles_asked}
-use Rattle.cs_engine.specs.IndexReading.{stock_of}
-use Rattle.cs_engine.proofs.OpenedLemmas.{answers_opened}
+use Rattle.cs_rows.specs.IndexReading.{division, stock_of}
+use Rattle.cs_engine.specs.Asking.{filed_titles, titles_asked}
+use Rattle.cs_engine.proofs.OpenedAnswers.{answers_opened}
 use Rattle.cs_engine.proofs.SharpReads.{reads_sharp}
-use Rattle.cs_engine.proofs.StockLemmas.{stock_corpus}
+use Rattle.cs_rows.proofs.StockLemmas.{stock_corpus}
 use Rattle.cs_engine.proofs.TitlesRead.{fewer_due, fewer_sharp, filed_less}
 use Rattle.cs_engine.proofs.engine.Engine.ask.Goals as goal
 

@@ -1,5 +1,6 @@
 use Rattle.std.proofs.Common.{ap, refl, subst, sym, ◌∙◌}
-use Rattle.cs_engine.specs.Asking.{division, titles_asked}
+use Rattle.cs_rows.specs.IndexReading.{division}
+use Rattle.cs_engine.specs.Asking.{titles_asked}
 use Rattle.cs_engine.specs.Keeping.{note_plan}
 use Rattle.cs_file.specs.CallAnswers.{is_read}
 use Rattle.cs_file.specs.Indexes.{CausedReads}

@@ -2,10 +2,11 @@ use Rattle.std.proofs.Common.{◌≡◌, ◌+◌, not, length, refl, sym, ap₂,
 use Rattle.std.specs.Prelude.{count_by}
 use Rattle.cs_base.specs.outside.Causes.{ReadsWithin}
 use Rattle.cs_cache.specs.AnswerList.{AnswerList}
-use Rattle.cs_engine.specs.Asking.{division, filed_titles}
+use Rattle.cs_rows.specs.IndexReading.{division}
+use Rattle.cs_engine.specs.Asking.{filed_titles}
 use Rattle.cs_engine.specs.Keeping.{note_plan}
-use Rattle.cs_engine.specs.Skipping.{hit_reads}
-use Rattle.cs_engine.specs.Stocked.{corpus_in}
+use Rattle.cs_rows.specs.Skipping.{hit_reads}
+use Rattle.cs_rows.specs.Stocked.{corpus_in}
 use Rattle.cs_file.specs.Indexes.{IndexView, StandsFor}
 use Rattle.cs_model.specs.Corpus.{Corpus}
 use Rattle.cs_model_changes.specs.Changes.{now}

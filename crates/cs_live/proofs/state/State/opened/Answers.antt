@@ -2,8 +2,8 @@ use Rattle.std.proofs.Common.{◌≡◌, ◌∙◌, true, ap, length, replicate,
 use Rattle.std.specs.List.{range_with_len}
 use Rattle.cs_base.specs.content.Members.{members_in}
 use Rattle.cs_base.proofs.MembersLemmas.{none_listed}
-use Rattle.cs_engine.specs.IndexReading.{by_post}
-use Rattle.cs_engine.proofs.StockLemmas.{by_post_exact, by_post_total}
+use Rattle.cs_rows.specs.IndexReading.{by_post}
+use Rattle.cs_rows.proofs.StockLemmas.{by_post_exact, by_post_total}
 use Rattle.cs_file.specs.Indexes.{IsIndex}
 use Rattle.cs_live.specs.States.{IsState, StateView, opened_state}
 use Rattle.cs_live.proofs.BeginningLemmas.{opened_is}

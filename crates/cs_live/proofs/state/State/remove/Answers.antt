@@ -1,7 +1,7 @@
 use Rattle.std.proofs.Common.{◌≡◌, ◌∙◌, ◌&&◌, ◌≤◌, ap, subst, sym, set, false}
 use Rattle.std.specs.Prelude.{All, nat_le}
 use Rattle.cs_base.specs.content.Members.{members_in}
-use Rattle.cs_engine.specs.IndexReading.{by_post}
+use Rattle.cs_rows.specs.IndexReading.{by_post}
 use Rattle.cs_live.specs.States.{IsState, StateView, without_doc}
 use Rattle.cs_live.proofs.ByWordLemmas.{all_by, placed}
 use Rattle.cs_live.proofs.RemovedLemmas.{without_is}

@@ -1,7 +1,7 @@
 use Rattle.std.proofs.Common.{List, subst, sym}
 use Rattle.cs_base.specs.content.Members.{members_in}
 use Rattle.cs_base.specs.declared.content.doc.Post.{Post}
-use Rattle.cs_engine.specs.IndexReading.{by_post}
+use Rattle.cs_rows.specs.IndexReading.{by_post}
 use Rattle.cs_live.specs.States.{IsState, StateView}
 use Rattle.cs_live.proofs.SettledLemmas.{by_word_known, good_size, taken}
 use Rattle.cs_live.proofs.state.State.take.Goals as goal

@@ -1,0 +1,13 @@
+pub mod Blockwise
+pub mod Counting
+pub mod BestScores
+pub mod Packing
+pub mod Plain
+pub mod IndexReading
+pub mod Steps
+pub mod Stocked
+pub mod GatheredRows
+pub mod Spans
+pub mod Sources
+pub mod Skipping
+pub mod Restricting
