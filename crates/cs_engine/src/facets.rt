@@ -27,7 +27,7 @@ use std::alloc::Global;
 const FEW_OF: usize = 32;
 
 /// The words of a facet, counted in the documents that a base lists, which are those of `listed`. What is held of its rows isn't read, and of
-/// its blocks no other is read than those that a hit reaches. Where these are all of them, its rows are held from then on.
+/// its blocks no other is read than those that a hit reaches. Where these are all of them, its rows are held, as far as there is room.
 pub(crate) fn counted_facet<I: Source, S: Store>(
     alloc: Global,
     index: &I,
@@ -82,7 +82,7 @@ fn reaches_all<I: Source>(index: &I, base: &Base, words: (u32, u32)) -> bool
     true
 }
 
-// The words of a facet by its rows, counted in the documents that a base lists. The rows are held from then on.
+// The words of a facet by its rows, counted in the documents that a base lists. The rows are held, as far as there is room.
 fn counted_rows(
     alloc: Global,
     words: (u32, u32),

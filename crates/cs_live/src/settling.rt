@@ -23,8 +23,8 @@ use std::alloc::Global;
 /// whether those of a document have room is seen by their number, but where the words are nearly too many.
 const MOST_WAITING: usize = 65_536;
 
-/// Of the rows in memory one in so many may wait, where that is more. So all that are put among them make each be moved this many times, on
-/// average and at most, however many they become.
+/// Of the rows in memory one in so many may wait, where that is more. So all that are put among them make each be moved this many times on
+/// average, however many they become.
 const WAITING_SHARE: usize = 32;
 
 /// What a state has in place of its own, where rows were brought in.

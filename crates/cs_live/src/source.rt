@@ -4,7 +4,7 @@ ghost use Rattle.cs_rows.specs.Blockwise.{AreMany};
 ghost use Rattle.cs_rows.specs.IndexReading.{IsWordRange};
 ghost use Rattle.cs_rows.specs.Skipping.{no_head};
 ghost use Rattle.cs_rows.specs.Sources.{IsSource, seen};
-ghost use Rattle.cs_rows.specs.Sources.source_of as opened_source;
+ghost use Rattle.cs_rows.specs.Sources.{source_of as opened_source};
 ghost use Rattle.cs_live.specs.States.{source_now};
 
 use crate::numbers::{old_words, own_span};
@@ -13,8 +13,8 @@ use crate::rows_by_word::rows_of_words;
 use crate::state::State;
 use crate::titles::title_now;
 use cs_base::{BlockHead, Memory, Post, Store, Text, Weights};
-use cs_rows::Source;
 use cs_file::{FetchFault, Fetched, Index, Sought};
+use cs_rows::Source;
 use std::alloc::Global;
 
 impl Source for State {

@@ -20,7 +20,7 @@ pub struct GatheredKeys {
     pub keys: Vec<u64>,
     /// The first block that holds such a word.
     pub first: u32,
-    /// The block behind the last that was read.
+    /// The first block that isn't looked at yet.
     pub next: u32,
     /// The block behind the last that holds such a word.
     pub last: u32,

@@ -33,6 +33,7 @@ pub(crate) fn kept_in(alloc: Global, base: &Base, rows: Cols) -> Result<Cols, Me
     }
 }
 
+/// The documents of hits.
 pub fn doc_numbers(alloc: Global, hits: &[Scored]) -> Result<Vec<u32>, Memory>
     ensures { IfOk result (λ v. v.items ≡ map (λ h. h.doc) hits.now) }
 {

@@ -11,8 +11,8 @@ ghost use Rattle.cs_rows.specs.Sources.{IsSource};
 use crate::source::Source;
 use cs_base::{Atom, Chain, Part};
 
-/// The words that a part asks for, where it is positive and each of its chains is one atom that is no join, and where no word lies between
-/// those of its chains: from one number up to another, which is left out.
+/// The words that a part asks for, where it is positive and each of its chains is one atom that is no join: from one number up to another,
+/// which is left out. No word lies between those of a chain and those of the chains before it, as they are written.
 pub fn words_of_part<I: Source>(index: &I, part: &Part) -> Option<(u32, u32)>
     requires index { IsSource (I.view index.now) }
 

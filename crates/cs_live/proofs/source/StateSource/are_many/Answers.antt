@@ -1,6 +1,6 @@
 use Rattle.std.proofs.Common.{◌≡◌, ◌∙◌, ap, length, subst, sym, arith, true}
 use Rattle.cs_rows.specs.Blockwise.{AreMany}
-use Rattle.cs_rows.specs.Sources.source_of as opened_source
+use Rattle.cs_rows.specs.Sources.{source_of as opened_source}
 use Rattle.cs_live.specs.States.{IsState, rank}
 use Rattle.cs_live.proofs.NumberLemmas.{rank_up, rank_within}
 use Rattle.cs_live.proofs.StateLemmas.{many_now}
