@@ -2,6 +2,7 @@
 --
 --   is_sought lo hi listed p      the word of a row is one of these, and its document is listed
 --   row_with head c ds i, rows_with head c ds     row i of columns, where ds are the documents; all rows
+--   AreDocsOf head bytes ds       the documents of all rows of a block
 --   CanBeSought head c ds listed      columns of a block, whose documents are those of its rows, each listed or not
 --   IsOfBlock w head p      a row of the block's words and of its kind in a collection of these weights
 --   passes whole lo hi listed p      a row is sought, where the words of a block that is whole are taken for these
@@ -13,7 +14,7 @@ use Rattle.cs_base.specs.declared.content.doc.Post.{Post}
 use Rattle.cs_base.specs.declared.content.scores.Weights.{Weights}
 use Rattle.cs_base.specs.declared.content.limits.TheConstants.{MAX_WORDS}
 use Rattle.cs_base.specs.declared.index.block.BlockHead.{BlockHead}
-use Rattle.cs_model_index.specs.BlockRules.{BlockColumns, is_scored, row_at, rows_read}
+use Rattle.cs_model_index.specs.BlockRules.{BlockColumns, block_columns, is_scored, row_at, rows_read}
 use Rattle.cs_block.specs.BlockReading.{HasColumns}
 
 -- a document behind the last of the list isn't listed
@@ -27,6 +28,11 @@ row_with head c ds i = row_at head.lo (slice_index_or ds i 0) (drop (2 * i) c.wo
 -- one for each document
 abbrev pub rows_with : BlockHead → BlockColumns → List ℕ → List Post
 rows_with head c ds = map (row_with head c ds) (range_with_len 0 (length ds))
+
+-- those of the rows that are read of any bytes
+pub record AreDocsOf (head : BlockHead) (bytes ds : List ℕ) : Type 0 where
+  pub long : length ds ≡ head.rows
+  pub rows : rows_with head (block_columns head bytes) ds ≡ rows_read head bytes
 
 -- also of no rows
 pub record CanBeSought (head : BlockHead) (c : BlockColumns) (ds : List ℕ) (listed : List Bool) : Type 0 where

@@ -26,4 +26,4 @@ pub use doc_words::{front_len, read_doc_words};
 pub use encoding::encode;
 pub use fault::BlockFault;
 pub use scores::read_scores;
-pub use sought::{are_sought, read_sought};
+pub use sought::{are_sought, list_docs, read_sought};

@@ -1,5 +1,5 @@
 //! Reading those rows of a block that are sought: of some words, in listed documents. Of the others no position and no score is
-//! looked at.
+//! looked at. The documents of all rows are listed once, however often rows are sought.
 ghost use Rattle.std.specs.Prelude.{◌≡◌, ◌+◌, ◌^◌, ◌<◌, ◌≤◌, ◌&&◌, ◌++◌, false, true, nat_le, nat_lt, [], length, map, take, filter, slice_index_or, IfOk, OnErr};
 ghost use Rattle.std.specs.List.{All};
 ghost use Rattle.cs_base.specs.declared.content.limits.TheConstants.{MAX_WORDS};
@@ -7,7 +7,7 @@ ghost use Rattle.cs_model_index.specs.Blocks.{IsShaped};
 ghost use Rattle.cs_cols.specs.SpanPlaces.{IsSpan, places_where};
 ghost use Rattle.cs_block.specs.BlockReading.{HasColumns};
 ghost use Rattle.cs_block.specs.ColumnsView.{seen_columns};
-ghost use Rattle.cs_block.specs.Sought.{CanBeSought, HasSought, IsOfBlock, is_sought, passes, row_with, rows_with};
+ghost use Rattle.cs_block.specs.Sought.{AreDocsOf, CanBeSought, HasSought, IsOfBlock, is_sought, passes, row_with, rows_with};
 
 use crate::columns::{CutColumns, block_columns, half_at, row_at};
 use crate::rules::{is_in_words, is_scored};
@@ -29,54 +29,84 @@ struct Wanted<'a> {
     listed: &'a [bool],
 }
 
-/// Puts the rows of a block in listed documents whose word's number is `words.0` or more and below `words.1` into a list, and the
-/// documents of all rows into a column, in place of what these hold. False, with anything in them, where a code doesn't stand, a
-/// document isn't in range, or a row that is sought isn't of the block's kind in a collection of these weights, which never comes of
-/// bytes that keep the rules. Where memory runs out both hold nothing.
+/// Lists the documents of all rows of a block, in place of what `docs` holds. False, with anything in it, where a code doesn't stand
+/// or a document isn't below `below`, which never comes of bytes that keep the rules. Where memory runs out it holds nothing.
+pub fn list_docs(
+    bytes: &[u8],
+    head: &BlockHead,
+    below: u32,
+    docs: &mut Vec<u32>,
+) -> Result<bool, Memory>
+    requires { IsShaped head.now (length bytes.now) }
+
+    ensures ok { IfOk result (λ listed. listed ≡ true → AreDocsOf head.now bytes.now docs.new.items) }
+    ensures known { IfOk result (λ listed. listed ≡ true → All (λ d. d < below) docs.new.items) }
+    ensures err { OnErr result (docs.new.items ≡ []) }
+{
+    let put = put_docs(bytes, head, below, docs);
+    if put.is_err() {
+        docs.truncate(0);
+    }
+    put
+}
+
+// The same, with anything in it where memory runs out.
+fn put_docs(bytes: &[u8], head: &BlockHead, below: u32, docs: &mut Vec<u32>) -> Result<bool, Memory>
+    requires { IsShaped head.now (length bytes.now) }
+
+    ensures ok { IfOk result (λ listed. listed ≡ true → AreDocsOf head.now bytes.now docs.new.items) }
+    ensures known { IfOk result (λ listed. listed ≡ true → All (λ d. d < below) docs.new.items) }
+{
+    let columns = block_columns(bytes, head);
+    docs.resize(head.rows as usize, 0)?;
+    let listed = docs_in(columns.gaps, 0, 0, below, docs);
+    Ok(listed.is_some())
+}
+
+/// Puts the rows of a block in listed documents whose word's number is `words.0` or more and below `words.1` into a list, in place of
+/// what it holds, by the documents of all rows. False, with anything in it, where a row that is sought isn't of the block's kind in a
+/// collection of these weights, which never comes of bytes that keep the rules. Where memory runs out it holds nothing.
 pub fn read_sought(
     bytes: &[u8],
     head: &BlockHead,
     weights: Weights,
     words: (u32, u32),
     listed: &[bool],
-    docs: &mut Vec<u32>,
+    docs: &[u32],
     into: &mut Vec<Post>,
 ) -> Result<bool, Memory>
     requires shaped { IsShaped head.now (length bytes.now) }
-    requires few { length listed.now < 2 ^ 32 }
+    requires docs { AreDocsOf head.now bytes.now docs.now }
+    requires known { All (λ d. d < length listed.now) docs.now }
 
     ensures ok { IfOk result (λ whole. whole ≡ true → HasSought weights head.now bytes.now words.0 words.1 listed.now into.new.items) }
-    ensures err { OnErr result ((docs.new.items ≡ []) × (into.new.items ≡ [])) }
+    ensures err { OnErr result (into.new.items ≡ []) }
 {
     let put = put_sought(bytes, head, weights, words, listed, docs, into);
     if put.is_err() {
-        docs.truncate(0);
         into.truncate(0);
     }
     put
 }
 
-// The same, with anything in both where memory runs out.
+// The same, with anything in it where memory runs out.
 fn put_sought(
     bytes: &[u8],
     head: &BlockHead,
     weights: Weights,
     words: (u32, u32),
     listed: &[bool],
-    docs: &mut Vec<u32>,
+    docs: &[u32],
     into: &mut Vec<Post>,
 ) -> Result<bool, Memory>
     requires shaped { IsShaped head.now (length bytes.now) }
-    requires few { length listed.now < 2 ^ 32 }
+    requires docs { AreDocsOf head.now bytes.now docs.now }
+    requires known { All (λ d. d < length listed.now) docs.now }
 
-    ensures ok { IfOk result (λ whole. whole ≡ true → HasSought weights head.now bytes.now words.0 words.1 listed.now into.new.items) }
+    ensures { IfOk result (λ whole. whole ≡ true → HasSought weights head.now bytes.now words.0 words.1 listed.now into.new.items) }
 {
-    let columns = block_columns(bytes, head);
-    docs.resize(head.rows as usize, 0)?;
-    if docs_in(columns.gaps, 0, 0, listed.len() as u32, docs).is_none() {
-        return Ok(false);
-    }
     into.truncate(0);
+    let columns = block_columns(bytes, head);
     let wanted = Wanted {
         words,
         whole: is_inside(head, words),

@@ -1,7 +1,7 @@
 -- What is right of the stock of an opened index is right of its file.
 --
 --   answers_opened   an answer
-use Rattle.std.proofs.Common.{◌≡◌, ℕ, List, sym, subst}
+use Rattle.std.proofs.Common.{ℕ, List, sym, subst}
 use Rattle.std.specs.Prelude.{Result}
 use Rattle.cs_file.specs.Indexes.{IndexView, IsIndex, StandsFor}
 use Rattle.cs_file.specs.declared.fault.FetchFault.{FetchFault}

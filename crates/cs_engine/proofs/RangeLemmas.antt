@@ -18,6 +18,7 @@ use Rattle.std.proofs.lemmas.List.{drop_all, take-append-drop, take_all}
 use Rattle.std.proofs.lemmas.List.Elements.{All-append, All-cons, All-contains, All-contains_itself, All-nil, All-tail, All-take, All-weaker, Contains-append_left, Contains-append_right}
 use Rattle.cs_meet.proofs.Passes.{next_is}
 use Rattle.cs_engine.specs.HeldRanges.{HoldsMore, IsFirstOf, IsWithout, OnlyGoes, PassesAt, bytes_of_range, is_kind, is_range, range_bytes}
+use Rattle.cs_engine.specs.declared.held.HeldKind.{HeldKind}
 use Rattle.cs_engine.specs.declared.held.HeldRange.{HeldRange}
 use Rattle.cs_engine.specs.declared.held.Holding.{Holding}
 use Rattle.cs_engine.specs.declared.held.TheConstants.{MAX_HELD_BYTES}
@@ -55,11 +56,11 @@ range_bytes_both [] ys = omega arith
 range_bytes_both (x ∷ xs) ys = let rest = range_bytes_both xs ys in omega (arith, rest)
 
 -- ---- one is taken out
-pub range_taken : (old new : List HeldRange) (k lo hi : ℕ) (rows : Bool) (r : HeldRange) → PassesAt (is_range lo hi rows) old k → r ≡ get_or old k r → new ≡ remove old k
-    → IsWithout (record { low = lo; high = hi; what = r.what }) old new × (is_kind rows r.what ≡ true)
-range_taken old new k lo hi rows r at is left =
-    let passes : is_range lo hi rows r ≡ true = ap (is_range lo hi rows) is ∙ at.1 r in
-    let parts = and_parts (r.low == lo && r.high == hi) (is_kind rows r.what) passes in
+pub range_taken : (old new : List HeldRange) (k lo hi : ℕ) (kind : HeldKind) (r : HeldRange) → PassesAt (is_range lo hi kind) old k → r ≡ get_or old k r → new ≡ remove old k
+    → IsWithout (record { low = lo; high = hi; what = r.what }) old new × (is_kind kind r.what ≡ true)
+range_taken old new k lo hi kind r at is left =
+    let passes : is_range lo hi kind r ≡ true = ap (is_range lo hi kind) is ∙ at.1 r in
+    let parts = and_parts (r.low == lo && r.high == hi) (is_kind kind r.what) passes in
     let ends = and_parts (r.low == lo) (r.high == hi) parts.0 in
     let same : r ≡ record { low = lo; high = hi; what = r.what } = ap₂ (λ l h. let x : HeldRange = record { low = l; high = h; what = r.what } in x)
     (eqb-true r.low lo ends.0) (eqb-true r.high hi ends.1) in (
@@ -107,11 +108,11 @@ module _ {r : HeldRange} {old new : List HeldRange} (w : IsWithout r old new) wh
 pub still_held : (P : HeldRange → Type 0) (old new : List HeldRange) → OnlyGoes old new → All P old → All P new
 still_held P old new goes all = All-weaker (Contains old) P (λ x has. All-contains P old x all has) new goes
 
-pub goes_by : (o : Option Holding) (lo hi : ℕ) (rows : Bool) {old new : List HeldRange}
-    → (o ≡ None → (new ≡ old) × (list_any (is_range lo hi rows) old ≡ false))
-    → IfSome o (λ w. IsWithout (record { low = lo; high = hi; what = w }) old new × (is_kind rows w ≡ true)) → OnlyGoes old new
-goes_by None lo hi rows {old} none some = subst (OnlyGoes old) (sym (none refl).0) (All-contains_itself old)
-goes_by (Some w) lo hi rows none some = others_go some.0
+pub goes_by : (o : Option Holding) (lo hi : ℕ) (kind : HeldKind) {old new : List HeldRange}
+    → (o ≡ None → (new ≡ old) × (list_any (is_range lo hi kind) old ≡ false))
+    → IfSome o (λ w. IsWithout (record { low = lo; high = hi; what = w }) old new × (is_kind kind w ≡ true)) → OnlyGoes old new
+goes_by None lo hi kind {old} none some = subst (OnlyGoes old) (sym (none refl).0) (All-contains_itself old)
+goes_by (Some w) lo hi kind none some = others_go some.0
 
 -- ---- one more is held
 pub held_more : (P : HeldRange → Type 0) {r : HeldRange} {old new : List HeldRange} → HoldsMore r old new → P r → All P old → All P new

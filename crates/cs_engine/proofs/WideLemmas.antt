@@ -33,6 +33,7 @@ use Rattle.cs_tables.specs.WordCounts.{WordCountsView}
 use Rattle.cs_rows.specs.IndexReading.{division}
 use Rattle.cs_rows.specs.Blockwise.{HasFound, IsWideFound}
 use Rattle.cs_rows.specs.Counting.{in_listed}
+use Rattle.cs_engine.specs.declared.held.HeldKind.TheVariants as kinds
 use Rattle.cs_engine.specs.HeldRanges.{AreHeldOver, IsHeldOver, IsHoldingOver, is_kind, is_range}
 use Rattle.cs_engine.specs.declared.finding.CountedWords.{CountedWords}
 use Rattle.cs_engine.specs.declared.held.HeldRange.{HeldRange}
@@ -102,22 +103,23 @@ alone_met v q {parts} {lo} {hi} are asks =
 
 -- ---- what is held, and what is to be held
 module _ (s : Stock) (lo hi : ℕ) where
-  by_what : (w : Holding) → is_kind false w ≡ true → IsHoldingOver s lo hi w → MAX_ENTRY_SIZE < length (filter (is_between lo hi) s.posts)
+  by_what : (w : Holding) → is_kind kinds.Counted w ≡ true → IsHoldingOver s lo hi w → MAX_ENTRY_SIZE < length (filter (is_between lo hi) s.posts)
   by_what (holding.Rows rows) is over = absurd (true≢false (sym is))
   by_what (holding.Counted hits counts) is over = over.many
+  by_what (holding.Blocks blocks) is over = absurd (true≢false (sym is))
 
-  by_held : (r : HeldRange) → is_range lo hi false r ≡ true → IsHeldOver s r → MAX_ENTRY_SIZE < length (filter (is_between lo hi) s.posts)
+  by_held : (r : HeldRange) → is_range lo hi kinds.Counted r ≡ true → IsHeldOver s r → MAX_ENTRY_SIZE < length (filter (is_between lo hi) s.posts)
   by_held r is over =
-      let parts = and_parts (r.low == lo && r.high == hi) (is_kind false r.what) is in
+      let parts = and_parts (r.low == lo && r.high == hi) (is_kind kinds.Counted r.what) is in
       let ends = and_parts (r.low == lo) (r.high == hi) parts.0 in
       by_what r.what parts.1 (subst (λ l. IsHoldingOver s l hi r.what) (eqb-true r.low lo ends.0)
       (subst (λ h. IsHoldingOver s r.low h r.what) (eqb-true r.high hi ends.1) over))
 
-  any_wide : (held : List HeldRange) → list_any (is_range lo hi false) held ≡ true → AllByRecursion (IsHeldOver s) held
+  any_wide : (held : List HeldRange) → list_any (is_range lo hi kinds.Counted) held ≡ true → AllByRecursion (IsHeldOver s) held
       → MAX_ENTRY_SIZE < length (filter (is_between lo hi) s.posts)
   any_wide [] any over = absurd (true≢false (sym any))
   any_wide (r ∷ rs) any over =
-      elim (is_range lo hi false r) as (λ b. is_range lo hi false r ≡ b → (b || list_any (is_range lo hi false) rs) ≡ true
+      elim (is_range lo hi kinds.Counted r) as (λ b. is_range lo hi kinds.Counted r ≡ b → (b || list_any (is_range lo hi kinds.Counted) rs) ≡ true
       → MAX_ENTRY_SIZE < length (filter (is_between lo hi) s.posts)) [
         | true ↦ λ is rest. by_held r is over.0
         | false ↦ λ is rest. any_wide rs rest over.1

@@ -28,6 +28,7 @@ use Rattle.cs_model_kept.specs.KeptList.{is_same, kept_fresh}
 use Rattle.cs_rows.specs.IndexReading.{division}
 use Rattle.cs_rows.specs.Blockwise.{AreMany, IsWideFound}
 use Rattle.cs_engine.specs.HeldRanges.{is_range}
+use Rattle.cs_engine.specs.declared.held.HeldKind.TheVariants as kinds
 use Rattle.cs_engine.specs.Keeping.{FitsQuery, IsEntryOver}
 use Rattle.cs_engine.specs.Loose.{IsTableFor}
 use Rattle.cs_rows.specs.Plain.{AreWordsOf}
@@ -62,7 +63,7 @@ AsksRange v q lo hi = AsksAlone v (out-Query q).parts lo hi
 
 -- only of words with so many rows what is counted is held
 abbrev pub AreWide : SourceView → List HeldRange → ℕ → ℕ → Type 0
-AreWide v held lo hi = AreMany v lo hi ⊎ (list_any (is_range lo hi false) held ≡ true)
+AreWide v held lo hi = AreMany v lo hi ⊎ (list_any (is_range lo hi kinds.Counted) held ≡ true)
 
 -- whatever store it was read from
 pub record FitsFound (i : IndexView) (q : Query) (f : QueryFound) : Type 0 where

@@ -28,7 +28,6 @@
 --   AnswersRight k s r old a new    the reply is that of the corpus, what is kept after it is so, and the engine is good
 use Rattle.std.specs.Prelude.{◌≡◌, ◌⊎◌, ℕ, Bool, true, false, List, ◌∷◌, length, take, Option, Some, None, IfOk, Result, Ok, Err, if◌then◌else◌}
 use Rattle.std.specs.List.{All}
-use Rattle.cs_base.specs.declared.content.doc.Base.{Base}
 use Rattle.cs_base.specs.declared.content.doc.Post.{Post}
 use Rattle.cs_base.specs.declared.content.key.Keys.{Keys}
 use Rattle.cs_base.specs.declared.content.query.Query.{Query, out-Query}
@@ -49,7 +48,7 @@ use Rattle.cs_model_kept.specs.Entries.{EntryOf, entry_at, entry_of}
 use Rattle.cs_model_kept.specs.KeptList.{KeptOf, GoodFor, after, kept_at, kept_by, kept_fresh, plan_by, put_in_front, to_front, used_key, is_same}
 use Rattle.cs_engine.specs.HeldRanges.{AreHeldOver}
 use Rattle.cs_rows.specs.IndexReading.{stock_of}
-use Rattle.cs_rows.specs.Steps.{EntryFits, entry_with, last_is_positive}
+use Rattle.cs_rows.specs.Steps.{EntryFits, last_is_positive}
 use Rattle.cs_rows.specs.Stocked.{Stock}
 use Rattle.cs_file.specs.declared.fault.FetchFault.{FetchFault}
 use Rattle.cs_file.specs.declared.fault.FetchFault.TheVariants as fetches

@@ -6,15 +6,12 @@
 --   IsEntryByWords b v q hits lo hi  over the bytes of its index a source's own entry of a query is that of these hits and words
 --   IsTableFor v b q cut hits t      over the bytes of its index a table is that of a query of these hits, cut
 --   AreCountsFor v b q hits t        over them what is counted gives the table of a query of these hits
-use Rattle.std.specs.Prelude.{◌≡◌, ℕ, ◌+◌, ◌-◌, ◌*◌, ◌≤◌, ◌<◌, true, nat_lt, List, [], ◌∷◌, length, map, filter, take, slice_index}
-use Rattle.std.specs.Prelude.{if◌then◌else◌}
+use Rattle.std.specs.Prelude.{◌≡◌, ℕ, ◌-◌, ◌*◌, ◌≤◌, true, List, length, filter, take}
 use Rattle.cs_base.specs.declared.content.doc.Base.{Base}
 use Rattle.cs_base.specs.declared.content.doc.Post.{Post}
-use Rattle.cs_base.specs.declared.content.doc.Scored.{Scored}
 use Rattle.cs_base.specs.declared.content.query.Query.{Query, out-Query}
 use Rattle.cs_base.specs.declared.content.scores.TheConstants.{MAX_ROW_SCORE}
 use Rattle.cs_file.specs.Indexes.{IndexView}
-use Rattle.cs_rank.specs.DocScores.{greatest, of_doc}
 use Rattle.cs_tables.specs.TableListings.{post_table}
 use Rattle.cs_tables.specs.WordCounts.{WordCountsView}
 use Rattle.cs_tables.specs.declared.tables.Table.{Table}

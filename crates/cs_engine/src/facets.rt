@@ -14,7 +14,7 @@ ghost use Rattle.cs_engine.specs.declared.held.Holding.TheVariants as holding;
 ghost use Rattle.cs_rows.specs.Steps.{IsBaseOf};
 ghost use Rattle.cs_rows.specs.Stocked.{is_between};
 
-use crate::held::{HeldRange, Holder, Holding};
+use crate::held::{HeldKind, HeldRange, Holder, Holding};
 use cs_base::{Base, Memory, Store};
 use cs_cols::Cols;
 use cs_file::FetchFault;
@@ -53,7 +53,7 @@ pub(crate) fn counted_facet<I: Source, S: Store>(
     ensures store { OnlyReads S.bytes S.lent S.faults (I.view index.now).index store.old store.new result }
     ensures reads { ReadsWithin (hit_met (I.view index.now) base.now words.0 words.1) (S.reads store.old) (S.reads store.new) }
 {
-    if let Some(Holding::Rows(rows)) = held.take(words, true) {
+    if let Some(Holding::Rows(rows)) = held.take(words, HeldKind::Rows) {
         let counts = counted_rows(alloc, words, rows, base, listed, held)?;
         return Ok(counts);
     }

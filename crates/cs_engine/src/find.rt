@@ -5,7 +5,7 @@ ghost use Rattle.cs_base.specs.outside.Causes.{ReadsWithin};
 ghost use Rattle.cs_model_kept.specs.{Due.{met_by, met_of_query}, KeptList.{is_same}, Sharp.{sharp_by}};
 ghost use Rattle.cs_rows.specs.IndexReading.{division, OnlyReads, WhereStood};
 ghost use Rattle.cs_engine.specs.Finding.{CanFind, FitsFound, IsFoundAnew, IsFoundOver};
-ghost use Rattle.cs_engine.specs.HeldRanges.{AreHeldOver, FitsRange, OnlyGoes};
+ghost use Rattle.cs_engine.specs.HeldRanges.{AreHeldOver, FitsRange};
 ghost use Rattle.cs_engine.specs.Keeping.{HoldsGood, IsPlanned};
 ghost use Rattle.cs_rows.specs.Sources.{seen};
 ghost use Rattle.cs_rows.specs.Stocked.{corpus_in};
@@ -21,7 +21,7 @@ use cs_file::FetchFault;
 use cs_rows::{Source, first_entry, hits_of_parts};
 
 /// What is found of a query by a plan of what is kept. Where nothing that is kept serves, and the query asks for a wide range of words
-/// alone, it is found by the range, which is taken out of what is held.
+/// alone, it is found by the range, which is taken out of what is held. A last part of many words goes on from blocks that are held.
 pub(crate) fn find_by<I: Source, S: Store>(
     over: QueryOver<'_, I>,
     answers: &Answers,
@@ -40,7 +40,9 @@ pub(crate) fn find_by<I: Source, S: Store>(
         → IfOk result (IsFoundOver b (I.view over.entry.index.now) over.entry.query.now over.entry.cut plan)) }
     ensures fits { IfOk result (FitsFound (seen (I.view over.entry.index.now)) over.entry.query.now) }
     ensures had { IfOk result (λ f. is_same plan ≡ true → is_some f.own ≡ false) }
-    ensures held { OnlyGoes held.old held.new }
+    ensures held { All (FitsRange (seen (I.view over.entry.index.now))) held.new }
+    ensures good { WhereStood (S.bytes store.old) (I.view over.entry.index.now).index
+        (λ b. AreHeldOver ((I.view over.entry.index.now).stock b) held.old → AreHeldOver ((I.view over.entry.index.now).stock b) held.new) }
     ensures store { OnlyReads S.bytes S.lent S.faults (I.view over.entry.index.now).index store.old store.new result }
     ensures reads { ReadsWithin (met_by (division (I.view over.entry.index.now).index) over.entry.query.now plan) (S.reads store.old) (S.reads store.new) }
     ensures sharp { WhereStood (S.bytes store.old) (I.view over.entry.index.now).index
@@ -68,7 +70,7 @@ pub(crate) fn find_by<I: Source, S: Store>(
         Plan::Extend => {
             let view = answers.view(keys, plan);
             let hits = hits_before_last(over.alloc, over.query, view.base, view.rows)?;
-            let found = find_last(over, store, hits)?;
+            let found = find_last(over, store, hits, held)?;
             Ok(found)
         }
         Plan::Fresh => {
@@ -91,7 +93,9 @@ fn find_fresh<I: Source, S: Store>(
         (λ b. AreHeldOver ((I.view over.entry.index.now).stock b) held.old
         → IfOk result (IsFoundAnew b (I.view over.entry.index.now) over.entry.query.now over.entry.cut)) }
     ensures fits { IfOk result (FitsFound (seen (I.view over.entry.index.now)) over.entry.query.now) }
-    ensures held { OnlyGoes held.old held.new }
+    ensures held { All (FitsRange (seen (I.view over.entry.index.now))) held.new }
+    ensures good { WhereStood (S.bytes store.old) (I.view over.entry.index.now).index
+        (λ b. AreHeldOver ((I.view over.entry.index.now).stock b) held.old → AreHeldOver ((I.view over.entry.index.now).stock b) held.new) }
     ensures store { OnlyReads S.bytes S.lent S.faults (I.view over.entry.index.now).index store.old store.new result }
     ensures reads { ReadsWithin (met_of_query (division (I.view over.entry.index.now).index) over.entry.query.now) (S.reads store.old) (S.reads store.new) }
 {
@@ -106,6 +110,6 @@ fn find_fresh<I: Source, S: Store>(
         return Ok(found);
     }
     let hits = hits_of_parts(over.alloc, over.index, store, &parts[..parts.len() - 1])?;
-    let found = find_last(over, store, hits)?;
+    let found = find_last(over, store, hits, held)?;
     Ok(found)
 }

@@ -1,29 +1,35 @@
 //! Finding by the parts of a query, the last one by what it asks for. Where its own entry is too large, its rows are brought into no
 //! order.
-ghost use Rattle.std.specs.Prelude.{◌≡◌, ◌+◌, ◌-◌, ◌*◌, ◌≤◌, ◌<◌, nat_lt, filter, length, IfOk, IfSome};
+ghost use Rattle.std.specs.Prelude.{◌≡◌, ℕ, ◌+◌, ◌-◌, ◌*◌, ◌^◌, ◌≤◌, ◌<◌, nat_lt, List, Option, filter, length, None, Some, IfOk, IfSome};
+ghost use Rattle.std.specs.List.{All};
+ghost use Rattle.std.specs.Option.{ForSome};
+ghost use Rattle.cs_file.specs.Indexes.{StandsFor};
 ghost use Rattle.cs_base.specs.declared.content.doc.Base.TheVariants as base;
 ghost use Rattle.cs_base.specs.{outside.Causes.{ReadsWithin}, declared.content.scores.TheConstants.{MAX_ROW_SCORE}, declared.content.query.Query.{out-Query}};
 ghost use Rattle.cs_model.specs.Keys.{last_of};
 ghost use Rattle.cs_model_kept.specs.{Entries.{listed_count}, KeptListLaws.{before_last}, declared.limits.TheConstants.{MAX_ENTRY_SIZE}};
-ghost use Rattle.cs_rows.specs.IndexReading.{division, OnlyReads, WhereStood};
+ghost use Rattle.cs_rows.specs.IndexReading.{division, IsWordRange, OnlyReads, WhereStood};
 ghost use Rattle.cs_rows.specs.Counting.{AreListed, in_listed};
 ghost use Rattle.cs_engine.specs.Finding.{CanFind, FitsFound, IsFoundAnew};
 ghost use Rattle.cs_rows.specs.GatheredRows.{HasGathered};
+ghost use Rattle.cs_engine.specs.HeldRanges.{AreHeldOver, FitsRange};
 ghost use Rattle.cs_engine.specs.Loose.{AreLastWords, IsEntryByWords};
-ghost use Rattle.cs_rows.specs.Skipping.{hit_blocks, hit_met, hit_of_last};
+ghost use Rattle.cs_rows.specs.Skipping.{IsSieve, hit_blocks, hit_met, hit_of_last};
 ghost use Rattle.cs_rows.specs.Sources.{seen};
 ghost use Rattle.cs_rows.specs.Steps.{AreHitsOver, IsBaseOf};
 ghost use Rattle.cs_rows.specs.Stocked.{is_between};
 
 use crate::finding::{CountedWords, QueryFound, QueryOver, found_with};
+use crate::held::Holder;
+use crate::held_blocks::{hold_blocks, taken_blocks};
 use cs_base::{Base, Store};
 use cs_cache::Entry;
 use cs_cols::Cols;
 use cs_file::FetchFault;
 use cs_model_kept::MAX_ENTRY_SIZE;
 use cs_rows::{
-    GatheredKeys, Source, extended_entry, found_behind, gather_keys, listed_count, listed_docs,
-    lists_none, many_chosen, ordered, pack_chosen, words_of_part,
+    GatheredKeys, Source, extended_entry, found_behind, gather_held, gather_keys, listed_count,
+    listed_docs, lists_none, many_chosen, ordered, pack_chosen, words_of_part,
 };
 use cs_tables::WordCounts;
 
@@ -33,15 +39,21 @@ pub(crate) fn find_last<I: Source, S: Store>(
     over: QueryOver<'_, I>,
     store: &mut S,
     hits: Base,
+    held: &mut Holder,
 ) -> Result<QueryFound, FetchFault>
     requires some { 1 ≤ length (out-Query over.query.now).parts }
     requires base { IsBaseOf (I.view over.index.now).docs (MAX_ROW_SCORE * (length (out-Query over.query.now).parts - 1)) hits }
+    requires held { All (FitsRange (seen (I.view over.index.now))) held.old }
     requires over { CanFind (S.bytes store.old) (I.view over.index.now) over.query.now }
 
     ensures told { WhereStood (S.bytes store.old) (I.view over.entry.index.now).index
-        (λ b. AreHitsOver ((I.view over.entry.index.now).stock b) (before_last over.entry.query.now) hits
+        (λ b. AreHeldOver ((I.view over.entry.index.now).stock b) held.old
+        → AreHitsOver ((I.view over.entry.index.now).stock b) (before_last over.entry.query.now) hits
         → IfOk result (IsFoundAnew b (I.view over.entry.index.now) over.entry.query.now over.entry.cut)) }
     ensures fits { IfOk result (FitsFound (seen (I.view over.entry.index.now)) over.entry.query.now) }
+    ensures held { All (FitsRange (seen (I.view over.entry.index.now))) held.new }
+    ensures good { WhereStood (S.bytes store.old) (I.view over.entry.index.now).index
+        (λ b. AreHeldOver ((I.view over.entry.index.now).stock b) held.old → AreHeldOver ((I.view over.entry.index.now).stock b) held.new) }
     ensures store { OnlyReads S.bytes S.lent S.faults (I.view over.entry.index.now).index store.old store.new result }
     ensures reads { ReadsWithin (hit_of_last (division (I.view over.entry.index.now).index) hits (last_of (out-Query over.entry.query.now).parts))
         (S.reads store.old) (S.reads store.new) }
@@ -55,7 +67,7 @@ pub(crate) fn find_last<I: Source, S: Store>(
         return Ok(none);
     }
     if let Some(words) = words_of_part(over.index, part) {
-        let found = find_words(over, store, hits, words)?;
+        let found = find_words(over, store, hits, words, held)?;
         return Ok(found);
     }
     let entry = extended_entry(over.alloc, over.index, store, hits, part)?;
@@ -69,14 +81,20 @@ fn find_words<I: Source, S: Store>(
     store: &mut S,
     hits: Base,
     words: (u32, u32),
+    held: &mut Holder,
 ) -> Result<QueryFound, FetchFault>
     requires asks { AreLastWords (seen (I.view over.index.now)) over.query.now hits words.0 words.1 }
+    requires held { All (FitsRange (seen (I.view over.index.now))) held.old }
     requires over { CanFind (S.bytes store.old) (I.view over.index.now) over.query.now }
 
     ensures told { WhereStood (S.bytes store.old) (I.view over.entry.index.now).index
-        (λ b. IsEntryByWords b (I.view over.entry.index.now) over.entry.query.now hits words.0 words.1
+        (λ b. AreHeldOver ((I.view over.entry.index.now).stock b) held.old
+        → IsEntryByWords b (I.view over.entry.index.now) over.entry.query.now hits words.0 words.1
         → IfOk result (IsFoundAnew b (I.view over.entry.index.now) over.entry.query.now over.entry.cut)) }
     ensures fits { IfOk result (FitsFound (seen (I.view over.entry.index.now)) over.entry.query.now) }
+    ensures held { All (FitsRange (seen (I.view over.entry.index.now))) held.new }
+    ensures good { WhereStood (S.bytes store.old) (I.view over.entry.index.now).index
+        (λ b. AreHeldOver ((I.view over.entry.index.now).stock b) held.old → AreHeldOver ((I.view over.entry.index.now).stock b) held.new) }
     ensures store { OnlyReads S.bytes S.lent S.faults (I.view over.entry.index.now).index store.old store.new result }
     ensures reads { ReadsWithin (hit_met (I.view over.entry.index.now) hits words.0 words.1) (S.reads store.old) (S.reads store.new) }
 {
@@ -85,16 +103,52 @@ fn find_words<I: Source, S: Store>(
     let listed = listed_docs(alloc, index, &hits)?;
     let marks: &[bool] = &listed;
     let room = MAX_ENTRY_SIZE.saturating_sub(listed_count(&hits));
-    let mut gathered = gather_keys(alloc, index, store, words, &hits, marks, room)?;
-    let held = index.held(words);
-    if are_more(gathered.keys.len(), many_chosen(held, words, marks), room) {
+    let mut gathered = gather_last(over, store, words, &hits, marks, room, held)?;
+    let added = index.held(words);
+    if are_more(gathered.keys.len(), many_chosen(added, words, marks), room) {
         let found = find_behind(over, store, &hits, words, marks, &gathered)?;
         return Ok(found);
     }
-    pack_chosen(weights, held, words, marks, &mut gathered.keys)?;
+    pack_chosen(weights, added, words, marks, &mut gathered.keys)?;
     let rows = ordered(alloc, weights, gathered.keys)?;
     let found = found_with(over, Entry { base: hits, rows })?;
     Ok(found)
+}
+
+// As `gather_keys` gives them. Where the words are many, what was read of their blocks is held, and rows are sought in what is held.
+fn gather_last<I: Source, S: Store>(
+    over: QueryOver<'_, I>,
+    store: &mut S,
+    words: (u32, u32),
+    hits: &Base,
+    listed: &[bool],
+    room: usize,
+    held: &mut Holder,
+) -> Result<GatheredKeys, FetchFault>
+    requires words { IsWordRange (seen (I.view over.index.now)) words.0 words.1 }
+    requires sieve { IsSieve (S.bytes store.old) (I.view over.index.now) hits.now listed.now }
+    requires held { All (FitsRange (seen (I.view over.index.now))) held.old }
+
+    ensures gathered { (told : Option (List ℕ)) → ForSome told (λ b. (S.bytes store.old ≡ Some b)
+        × StandsFor b (I.view over.entry.index.now).index × AreHeldOver ((I.view over.entry.index.now).stock b) held.old)
+        → IfOk result (λ g. HasGathered (I.view over.entry.index.now) told words.0 words.1 listed.now g) }
+    ensures whole { IfOk result (λ g. g.next < g.last → (room < length g.keys.items) × (length g.keys.items < 2 ^ 64)) }
+    ensures held { All (FitsRange (seen (I.view over.entry.index.now))) held.new }
+    ensures good { WhereStood (S.bytes store.old) (I.view over.entry.index.now).index
+        (λ b. AreHeldOver ((I.view over.entry.index.now).stock b) held.old → AreHeldOver ((I.view over.entry.index.now).stock b) held.new) }
+    ensures store { OnlyReads S.bytes S.lent S.faults (I.view over.entry.index.now).index store.old store.new result }
+    ensures read { IfOk result (λ g. ReadsWithin (hit_blocks hits.now (I.view over.entry.index.now).index.heads g.first g.next)
+        (S.reads store.old) (S.reads store.new)) }
+    ensures reads { ReadsWithin (hit_met (I.view over.entry.index.now) hits.now words.0 words.1) (S.reads store.old) (S.reads store.new) }
+{
+    let QueryOver { alloc, index, .. } = over;
+    if !index.are_many(words) {
+        return gather_keys(alloc, index, store, words, hits, listed, room);
+    }
+    let mut blocks = taken_blocks(alloc, held, words);
+    let gathered = gather_held(alloc, index, store, words, hits, listed, room, &mut blocks);
+    hold_blocks(held, words, blocks);
+    gathered
 }
 
 // Whether so many and so many are together more than there is room for.
@@ -117,11 +171,12 @@ fn find_behind<I: Source, S: Store>(
 ) -> Result<QueryFound, FetchFault>
     requires asks { AreLastWords (seen (I.view over.index.now)) over.query.now hits.now words.0 words.1 }
     requires listed { AreListed (I.view over.index.now).present hits.now listed.now }
-    requires gathered { HasGathered (I.view over.index.now) (S.bytes store.old) words.0 words.1 listed.now gathered.now }
+    requires gathered { HasGathered (I.view over.index.now) None words.0 words.1 listed.now gathered.now }
     requires over { CanFind (S.bytes store.old) (I.view over.index.now) over.query.now }
 
     ensures told { WhereStood (S.bytes store.old) (I.view over.entry.index.now).index
-        (λ b. IsEntryByWords b (I.view over.entry.index.now) over.entry.query.now hits.now words.0 words.1
+        (λ b. HasGathered (I.view over.entry.index.now) (Some b) words.0 words.1 listed.now gathered.now
+        → IsEntryByWords b (I.view over.entry.index.now) over.entry.query.now hits.now words.0 words.1
         → MAX_ENTRY_SIZE < length (filter (in_listed listed.now) (filter (is_between words.0 words.1) ((I.view over.entry.index.now).stock b).posts))
         + listed_count hits.now
         → IfOk result (IsFoundAnew b (I.view over.entry.index.now) over.entry.query.now over.entry.cut)) }

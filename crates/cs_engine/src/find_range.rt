@@ -13,7 +13,7 @@ ghost use Rattle.cs_rows.specs.Steps.{IsBaseOf};
 ghost use Rattle.cs_rows.specs.Stocked.{is_between};
 
 use crate::finding::{CountedWords, QueryFound, QueryOver};
-use crate::held::{Holder, Holding};
+use crate::held::{HeldKind, Holder, Holding};
 use cs_base::{Base, Part, Store};
 use cs_file::FetchFault;
 use cs_rows::{Source, found_behind, listed_docs, nothing_gathered, words_of_part};
@@ -95,7 +95,7 @@ fn counted_words<I: Source, S: Store>(
     ensures store { OnlyReads S.bytes S.lent S.faults (I.view index.now).index store.old store.new result }
     ensures reads { ReadsWithin (met_in (I.view index.now) words.0 words.1) (S.reads store.old) (S.reads store.new) }
 {
-    if let Some(Holding::Counted { hits, counts }) = held.take(words, false) {
+    if let Some(Holding::Counted { hits, counts }) = held.take(words, HeldKind::Counted) {
         return Ok((hits, counts));
     }
     let found = read_words(alloc, index, store, words)?;

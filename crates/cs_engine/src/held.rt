@@ -3,16 +3,18 @@
 //! A range that is used is taken out, and held anew behind its use: so nothing that is in use is let go.
 ghost use Rattle.std.specs.Prelude.{◌≡◌, ◌+◌, ◌<◌, ◌≤◌, ◌^◌, [], None, false, true, length, take, IfSome, if◌then◌else◌};
 ghost use Rattle.std.specs.List.{list_any};
-ghost use Rattle.cs_engine.specs.HeldRanges.{HoldsMore, IsFirstOf, IsWithout, PassesAt, bytes_of_range, is_kind, is_range, range_bytes, what_bytes};
+ghost use Rattle.cs_engine.specs.declared.held.HeldKind.TheVariants as kinds;
+ghost use Rattle.cs_engine.specs.HeldRanges.{HoldsMore, IsFirstOf, IsWithout, PassesAt, bytes_of_blocks, bytes_of_range, is_kind, is_range, range_bytes, what_bytes};
 
 use cs_base::Base;
 use cs_cols::Cols;
+use cs_file::ReadBlock;
 use cs_rows::listed_count;
 use cs_tables::WordCounts;
 use std::alloc::Global;
 use std::marker::Model;
 
-/// So many bytes of rows, hits and counts are held at most; all rows that a collection may have are fewer.
+/// So many bytes of rows, hits, counts and blocks are held at most.
 pub(crate) const MAX_HELD_BYTES: u128 = 240 << 20;
 
 /// The bytes of a range by itself, so that there are never more of them than a request can look through.
@@ -27,6 +29,9 @@ pub(crate) const HIT_BYTES: u128 = 8;
 /// The bytes of a counted word: how many documents have it, and the last of them.
 pub(crate) const COUNT_BYTES: u128 = 8;
 
+/// The bytes of a block by itself, without what was read of it.
+pub(crate) const BLOCK_BYTES: u128 = 1 << 7;
+
 /// What is held of a range of words.
 #[derive(Drop)]
 pub(crate) enum Holding {
@@ -34,6 +39,19 @@ pub(crate) enum Holding {
     Rows(Cols),
     /// The documents that have such a row with their scores, and these words, counted.
     Counted { hits: Base, counts: WordCounts },
+    /// What was read of the blocks that hold such a word, the first one in front.
+    Blocks(Vec<ReadBlock>),
+}
+
+/// Which of these is held.
+#[derive(Clone, Copy)]
+pub(crate) enum HeldKind {
+    /// Rows.
+    Rows,
+    /// What is counted.
+    Counted,
+    /// Blocks.
+    Blocks,
 }
 
 /// The words from one number up to another, which is left out, with what is held of them.
@@ -74,21 +92,21 @@ impl Holder {
         }
     }
 
-    /// Takes out what is held of these words: their rows, or else what is counted of them.
-    pub(crate) fn take(&mut self, words: (u32, u32), rows: bool) -> Option<Holding>
-        ensures none { result ≡ None → (self.new ≡ self.old) × (list_any (is_range words.0 words.1 rows) self.old ≡ false) }
-        ensures some { IfSome result (λ w. IsWithout (record { low = words.0; high = words.1; what = w }) self.old self.new × (is_kind rows w ≡ true)) }
+    /// Takes out what is held of these words and of this kind.
+    pub(crate) fn take(&mut self, words: (u32, u32), kind: HeldKind) -> Option<Holding>
+        ensures none { result ≡ None → (self.new ≡ self.old) × (list_any (is_range words.0 words.1 kind) self.old ≡ false) }
+        ensures some { IfSome result (λ w. IsWithout (record { low = words.0; high = words.1; what = w }) self.old self.new × (is_kind kind w ≡ true)) }
     {
-        let place = place_of(&self.ranges, words, rows)?;
+        let place = place_of(&self.ranges, words, kind)?;
         let range = self.ranges.remove(place);
         Some(range.what)
     }
 
     /// Whether what is counted of these words is held.
     pub(crate) fn has_counted(&self, words: (u32, u32)) -> bool
-        ensures { result ≡ list_any (is_range words.0 words.1 false) self.now }
+        ensures { result ≡ list_any (is_range words.0 words.1 kinds.Counted) self.now }
     {
-        place_of(&self.ranges, words, false).is_some()
+        place_of(&self.ranges, words, HeldKind::Counted).is_some()
     }
 
     /// Holds a range. Where more than the bound would be held, those go that weren't used for longest, and one that is larger by itself
@@ -135,7 +153,7 @@ fn many_within(ranges: &[HeldRange]) -> usize
 // The bytes of a range.
 fn bytes_of_range(range: &HeldRange) -> u128
     ensures bytes { result ≡ bytes_of_range range.now }
-    ensures few { result < 2 ^ 70 }
+    ensures few { result < 2 ^ 127 }
 {
     RANGE_BYTES + bytes_held(&range.what, range.high.saturating_sub(range.low))
 }
@@ -143,42 +161,56 @@ fn bytes_of_range(range: &HeldRange) -> u128
 // The bytes of what is held of so many words.
 fn bytes_held(what: &Holding, words: u32) -> u128
     ensures bytes { result ≡ what_bytes what.now words }
-    ensures few { result < 2 ^ 69 }
+    ensures few { result < 2 ^ 126 }
 {
     match what {
         Holding::Rows(rows) => ROW_BYTES * rows.len() as u128,
         Holding::Counted { hits, .. } => {
             HIT_BYTES * listed_count(hits) as u128 + COUNT_BYTES * u128::from(words)
         }
+        Holding::Blocks(blocks) => bytes_of_blocks(blocks),
     }
 }
 
-// The place of what is held of these words.
-fn place_of(ranges: &[HeldRange], words: (u32, u32), rows: bool) -> Option<usize>
-    ensures none { result ≡ None → list_any (is_range words.0 words.1 rows) ranges.now ≡ false }
-    ensures some { IfSome result (λ k. PassesAt (is_range words.0 words.1 rows) ranges.now k) }
+// The bytes of blocks and of what was read of them.
+fn bytes_of_blocks(blocks: &[ReadBlock]) -> u128
+    ensures bytes { result ≡ bytes_of_blocks blocks.now }
+    ensures few { result < 2 ^ 126 }
+{
+    let mut bytes = 0;
+    for block in blocks {
+        bytes += BLOCK_BYTES + block.size();
+    }
+    bytes
+}
+
+// The place of what is held of these words and of this kind.
+fn place_of(ranges: &[HeldRange], words: (u32, u32), kind: HeldKind) -> Option<usize>
+    ensures none { result ≡ None → list_any (is_range words.0 words.1 kind) ranges.now ≡ false }
+    ensures some { IfSome result (λ k. PassesAt (is_range words.0 words.1 kind) ranges.now k) }
 {
     for (i, range) in ranges.iter().enumerate() {
-        if is_range(range, words, rows) {
+        if is_range(range, words, kind) {
             return Some(i);
         }
     }
     None
 }
 
-// Whether a range is of these words, and has rows or not.
-fn is_range(range: &HeldRange, words: (u32, u32), rows: bool) -> bool
-    ensures { result ≡ is_range words.0 words.1 rows range.now }
+// Whether a range is of these words, and what is held of it of this kind.
+fn is_range(range: &HeldRange, words: (u32, u32), kind: HeldKind) -> bool
+    ensures { result ≡ is_range words.0 words.1 kind range.now }
 {
-    range.low == words.0 && range.high == words.1 && is_kind(&range.what, rows)
+    range.low == words.0 && range.high == words.1 && is_kind(&range.what, kind)
 }
 
-// Whether it has rows, or hasn't.
-fn is_kind(what: &Holding, rows: bool) -> bool
-    ensures { result ≡ is_kind rows what.now }
+// Whether it is of this kind.
+fn is_kind(what: &Holding, kind: HeldKind) -> bool
+    ensures { result ≡ is_kind kind what.now }
 {
     match what {
-        Holding::Rows(_) => rows,
-        Holding::Counted { .. } => !rows,
+        Holding::Rows(_) => matches!(kind, HeldKind::Rows),
+        Holding::Counted { .. } => matches!(kind, HeldKind::Counted),
+        Holding::Blocks(_) => matches!(kind, HeldKind::Blocks),
     }
 }

@@ -7,5 +7,6 @@ pub mod Indexes
 pub mod Opening
 pub mod Parting
 pub mod Putting
+pub mod BlockBytes
 pub mod WholeImages
 pub mod Writable

@@ -291,6 +291,7 @@ module _ (s : StateView) (is : IsState s) where
       stocked = now_stocked;
       docs = sym (titled_docs s.present titles titles_long);
       words = refl;
+      bytes = refl;
       count = length-map (image_of b).blocks N ∙ stood_count b s.index stands;
       lie = λ k h lt.
           block_now s.shift s.present (λ d. lies_in (get_or s.index.heads k h) d ≡ true) (image_of b).blocks k (blocks_bounded b s.index stands k h lt);

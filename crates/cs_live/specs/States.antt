@@ -1,6 +1,6 @@
 -- The state of an index under changes: documents added behind those of the index, and documents that are gone.
 --
--- Source: this engine's own, over `Sources` of cs_engine.
+-- Source: this engine's own, over `Sources` of cs_rows.
 --
 --   StateView            an index, the words of it and of what was added, the number of each word of the index among these, which numbers are
 --                        those of documents, whether all of the index are there, the rows of added documents that are there in order of place,
@@ -89,6 +89,7 @@ stock_now s b = record {
   titles = titles_now s.present ((image_of b).titles ++ s.added);
   words = s.words;
   posts = now_posts s.shift s.present (stock_of b).posts ++ s.held;
+  bytes = b;
 }
 
 -- its blocks are those of the index as they are now, and its rows in memory those of added documents by their words

@@ -1,18 +1,20 @@
 //! Rows of the index as they are now: with the new numbers of their words, and without those of documents that are gone. They are put right
 //! in their own place, where a document is gone or a word has another number, and else they are what was read.
-ghost use Rattle.std.specs.Prelude.{◌≡◌, ◌<◌, false, true, filter, length, map, slice_index_or, take, OnOk};
+ghost use Rattle.std.specs.Prelude.{◌≡◌, ◌<◌, ℕ, false, true, List, Option, filter, length, map, slice_index_or, take, IfOk, OnOk};
 ghost use Rattle.std.specs.List.{All};
+ghost use Rattle.std.specs.Option.{ForSome};
 ghost use Rattle.cs_base.specs.outside.Causes.{ReadsWithin};
 ghost use Rattle.cs_rows.specs.Sources.{is_there};
 ghost use Rattle.cs_file.specs.CallAnswers.{IsChangeOfBlock, LeavesStore};
 ghost use Rattle.cs_file.specs.Indexes.{HasAllBlocks};
+ghost use Rattle.cs_file.specs.BlockBytes.{FitsBlock, HasFileBytes};
 ghost use Rattle.cs_live.specs.States.{AreOwnNumbers, AreScoredNow, IsFetched, IsScoredNow, IsState, now_posts, renumbered};
 
 use crate::facts::is_set;
 use crate::numbers::{has_own_words, old_words};
 use crate::state::{State, docs_of_index};
-use cs_base::{Post, Store};
-use cs_file::{FetchFault, Fetched, Sought};
+use cs_base::{Memory, Post, Store};
+use cs_file::{FetchFault, Fetched, ReadBlock, Sought};
 use std::alloc::Global;
 
 /// Reads the rows of a block that are sought, as they are now.
@@ -31,6 +33,8 @@ pub(crate) fn fetch_now<S: Store>(
 
     ensures is { IsState state.now }
     ensures fetched { OnOk result (IsFetched state.now.index (S.bytes store.old) k state.now.shift state.now.present words.0 words.1 listed.now into.new.posts.items) }
+    ensures fits { OnOk result (FitsBlock state.now.index into.new.block) }
+    ensures file { ForSome (S.bytes store.old) (λ b. OnOk result (HasFileBytes b into.new.block)) }
     ensures store { LeavesStore S.bytes S.lent S.faults state.now.index (IsChangeOfBlock state.now.index (S.bytes store.old) k) store.old store.new result }
     ensures reads { ReadsWithin 1 (S.reads store.old) (S.reads store.new) }
 {
@@ -41,6 +45,36 @@ pub(crate) fn fetch_now<S: Store>(
     let own = has_own_words(&state.words, shift);
     put_now(state.whole, own, shift, &state.present, &mut into.posts);
     Ok(())
+}
+
+/// Puts the rows of a block that are sought, as they are now, into a list, out of what was read of the block. False, with anything in it,
+/// where what was read is another block or breaks a rule.
+pub(crate) fn seek_now(
+    state: &State,
+    k: u32,
+    from: &ReadBlock,
+    words: (u32, u32),
+    listed: &[bool],
+    into: &mut Vec<Post>,
+) -> Result<bool, Memory>
+    requires in_range { k < length state.now.index.heads }
+    requires listed { length listed.now ≡ length state.now.present }
+    requires fits { FitsBlock state.now.index from.now }
+
+    ensures is { IsState state.now }
+    ensures sought { (told : Option (List ℕ)) → ForSome told (λ b. HasFileBytes b from.now) → IfOk result (λ is. is ≡ true
+        → IsFetched state.now.index told k state.now.shift state.now.present words.0 words.1 listed.now into.new.items) }
+{
+    let shift: &[u32] = &state.shift;
+    let old = old_words(shift, words);
+    let docs = &listed[..docs_of_index(&state.index) as usize];
+    let found = state.index.seek(k, from, old, docs, into)?;
+    if !found {
+        return Ok(false);
+    }
+    let own = has_own_words(&state.words, shift);
+    put_now(state.whole, own, shift, &state.present, into);
+    Ok(true)
 }
 
 // Puts rows right: without those of documents that are gone, where not all are there, and with the numbers that their words have now, where

@@ -8,12 +8,12 @@ ghost use Rattle.cs_rows.specs.Sources.{source_of as opened_source};
 ghost use Rattle.cs_live.specs.States.{source_now};
 
 use crate::numbers::{old_words, own_span};
-use crate::rows::{fetch_now, fetch_scored_now};
+use crate::rows::{fetch_now, fetch_scored_now, seek_now};
 use crate::rows_by_word::rows_of_words;
 use crate::state::State;
 use crate::titles::title_now;
 use cs_base::{BlockHead, Memory, Post, Store, Text, Weights};
-use cs_file::{FetchFault, Fetched, Index, Sought};
+use cs_file::{FetchFault, Fetched, Index, ReadBlock, Sought};
 use cs_rows::Source;
 use std::alloc::Global;
 
@@ -79,6 +79,17 @@ impl Source for State {
         into: &mut Sought,
     ) -> Result<(), FetchFault> {
         fetch_now(alloc, self, store, k, words, listed, into)
+    }
+
+    fn seek(
+        &self,
+        k: u32,
+        from: &ReadBlock,
+        words: (u32, u32),
+        listed: &[bool],
+        into: &mut Vec<Post>,
+    ) -> Result<bool, Memory> {
+        seek_now(self, k, from, words, listed, into)
     }
 
     fn fetch_scored<S: Store>(

@@ -3,9 +3,9 @@
 --   opened_told      over the bytes of the index
 --   opened_source    an index is a source
 --   opened_title     a title
-use Rattle.std.proofs.Common.{◌≡◌, ℕ, ◌<◌, Bool, ◌&&◌, true, List, [], length, get_or, sym, ap, subst, ◌∙◌}
+use Rattle.std.proofs.Common.{◌≡◌, ℕ, ◌<◌, Bool, ◌&&◌, true, List, [], length, get_or, sym, ap, subst, ◌∙◌, refl}
 use Rattle.std.proofs.Common.{append-nil}
-use Rattle.std.specs.Prelude.{All, Result, filter}
+use Rattle.std.specs.Prelude.{All, filter}
 use Rattle.std.specs.List.{list_any, range_with_len}
 use Rattle.std.specs.Str.{IsUtf8, bytes_eq, is_utf8}
 use Rattle.std.proofs.lemmas.Bool.{and_parts}
@@ -20,16 +20,13 @@ use Rattle.cs_file.specs.Indexes.{IndexView, IsIndex, StandsFor, title_in}
 use Rattle.cs_file.proofs.PostsLemmas.{posts_between}
 use Rattle.cs_file.proofs.StoodLemmas.{stood_count}
 use Rattle.cs_model_index.specs.Images.{image_posts}
-use Rattle.cs_model_index.specs.Sections.{file_corpus, image_of}
+use Rattle.cs_model_index.specs.Sections.{image_of}
 use Rattle.cs_tables.specs.WordCounts.{AreCountable}
-use Rattle.cs_file.specs.declared.fault.FetchFault.{FetchFault}
 use Rattle.cs_model.specs.Answers.{begins}
-use Rattle.cs_model.specs.Replies.{Reply}
-use Rattle.cs_model.specs.Requests.{Request}
 use Rattle.cs_rows.specs.Counting.{counted_rows}
 use Rattle.cs_rows.specs.IndexReading.{by_post, stock_of}
 use Rattle.cs_rows.specs.Sources.{IsIn, IsSource, IsTold, source_of}
-use Rattle.cs_rows.specs.Stocked.{corpus_in, title_at}
+use Rattle.cs_rows.specs.Stocked.{title_at}
 use Rattle.cs_rows.proofs.AlikeLemmas.{any_filter}
 use Rattle.cs_rows.proofs.AskedWords.{met_holds, prefix_met, word_met}
 use Rattle.cs_rows.proofs.BoundedBlocks.{blocks_bounded}
@@ -38,7 +35,7 @@ use Rattle.cs_rows.proofs.DistinctLemmas.{long_alike}
 use Rattle.cs_rows.proofs.ListedLemmas.{keys_numbered}
 use Rattle.cs_rows.proofs.PresentLemmas.{present_all}
 use Rattle.cs_rows.proofs.ReplyLemmas.{titled}
-use Rattle.cs_rows.proofs.StockLemmas.{by_post_exact, by_post_total, docs_are, stock_corpus, stocked, words_are}
+use Rattle.cs_rows.proofs.StockLemmas.{by_post_exact, by_post_total, docs_are, stocked, words_are}
 
 index_texts : (i : IndexView) → IsIndex i → All IsUtf8 i.words
 index_texts i is = λ k d l. IsUtf8-from_is_utf8 (get_or i.words k d) (and_parts (is_utf8 (get_or i.words k d)) _ (is.words k d l)).0
@@ -60,6 +57,7 @@ module _ (i : IndexView) (is : IsIndex i) where
 
     pub opened_told : IsTold (source_of i) b
     opened_told = record {
+      bytes = refl;
       stocked = stocked b i stands is;
       docs = present_all i.docs ∙ ap (range_with_len 0) (docs_are b i stands is) ∙ sym (keys_numbered (image_of b).titles);
       words = words_are b i stands is;

@@ -58,7 +58,7 @@ by_post = then_cmp by_place (on (λ p. p.score) nat_cmp)
 
 -- the posts of all blocks in one order; it counts only where the bytes are an index file
 abbrev pub stock_of : List ℕ → Stock
-stock_of b = record { titles = by_number (image_of b).titles; words = (image_of b).words; posts = members_in by_post (image_posts (image_of b)) }
+stock_of b = record { titles = by_number (image_of b).titles; words = (image_of b).words; posts = members_in by_post (image_posts (image_of b)); bytes = b }
 
 -- nothing is said of a store that tells nothing, and of one that tells other bytes
 abbrev pub WhereStood : Option (List ℕ) → IndexView → (List ℕ → Type 0) → Type 0

@@ -105,12 +105,13 @@ pub record IsIn (v : SourceView) (p : Post) : Type 0 where
   pub there : is_there v.present p ≡ true
   pub ranged : IsRanged (seen v) p
 
--- the documents are those that are there; the rows have the members of the stock's, each once; those of a block lie from its least document to
--- its greatest; the blocks that hold some words have all their rows in blocks; and rows of blocks and memory can be counted together
+-- the documents are those that are there, and the bytes are the stock's; the rows have the members of the stock's, each once; those of a block
+-- lie from its least document to its greatest; the blocks that hold some words have all their rows in blocks; and rows of blocks and memory can be counted together
 pub record IsTold (v : SourceView) (b : List ℕ) : Type 0 where
   pub stocked : IsStocked (v.stock b)
   pub docs : present_docs v.present ≡ stock_docs (v.stock b)
   pub words : v.words ≡ (v.stock b).words
+  pub bytes : (v.stock b).bytes ≡ b
   pub count : length (v.blocks b) ≡ length v.index.heads
   pub lie : (k : ℕ) (h : BlockHead) → k < length v.index.heads
       → All (λ p. lies_in (slice_index_or v.index.heads k h) p.doc ≡ true) (slice_index_or (v.blocks b) k [])

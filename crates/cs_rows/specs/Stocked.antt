@@ -2,7 +2,7 @@
 --
 -- Source: this engine's own, over the posts and rows of Numbered of cs_model_index.
 --
---   Stock                  titles by document number, words and posts
+--   Stock                  titles by document number, words and posts, and the bytes of the index file that they are read of
 --   corpus_in s            the corpus of a stock
 --   stock_docs s           the numbers of its documents
 --   present_docs present   the numbers that are those of documents
@@ -54,6 +54,7 @@ pub record Stock : Type 0 where
   pub titles : map.FinMap nat_cmp (List ℕ)
   pub words : List (List ℕ)
   pub posts : List Post
+  pub bytes : List ℕ
 
 -- what a query is asked over; of no posts it has no row
 abbrev pub corpus_in : Stock → Corpus

@@ -1,5 +1,5 @@
 //! The hits and the words of a range of words, scored and counted block by block as they are read.
-ghost use Rattle.std.specs.Prelude.{◌≡◌, ◌-◌, ◌*◌, ◌^◌, ◌<◌, false, true, filter, IfOk};
+ghost use Rattle.std.specs.Prelude.{◌≡◌, ◌-◌, ◌*◌, ◌^◌, ◌<◌, false, true, filter, None, Some, IfOk};
 ghost use Rattle.cs_base.specs.declared.content.doc.Base.TheVariants as base;
 ghost use Rattle.cs_base.specs.{declared.content.limits.TheConstants.{MAX_PARTS}, declared.content.scores.TheConstants.{MAX_ROW_SCORE}};
 ghost use Rattle.cs_base.specs.outside.Causes.{ReadsWithin};
@@ -67,11 +67,11 @@ pub fn found_behind<I: Source, S: Store>(
     requires words { IsWordRange (seen (I.view index.now)) words.0 words.1 }
     requires base { IsBaseOf (I.view index.now).docs (MAX_ROW_SCORE * (MAX_PARTS - 1)) hits.now }
     requires listed { AreListed (I.view index.now).present hits.now listed.now }
-    requires gathered { HasGathered (I.view index.now) (S.bytes store.old) words.0 words.1 listed.now gathered.now }
+    requires gathered { HasGathered (I.view index.now) None words.0 words.1 listed.now gathered.now }
     requires opened { CanRead (S.bytes store.old) (I.view index.now) }
 
     ensures told { WhereStood (S.bytes store.old) (I.view index.now).index
-        (λ b. IfOk result (λ found. HasFound hits.now
+        (λ b. HasGathered (I.view index.now) (Some b) words.0 words.1 listed.now gathered.now → IfOk result (λ found. HasFound hits.now
         (base_posts hits.now (filter (is_between words.0 words.1) ((I.view index.now).stock b).posts)) found.0 found.1)) }
     ensures base { IfOk result (λ found. IsBaseOf (I.view index.now).docs (MAX_ROW_SCORE * MAX_PARTS) found.0) }
     ensures words { IfOk result (λ found. found.1.high ≡ words.1) }

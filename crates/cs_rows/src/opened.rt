@@ -5,7 +5,7 @@ use crate::blockwise::are_many;
 use crate::source::Source;
 use crate::words::span_of_word;
 use cs_base::{BlockHead, Memory, Post, Store, Text, Weights};
-use cs_file::{FetchFault, Fetched, Index, Sought};
+use cs_file::{FetchFault, Fetched, Index, ReadBlock, Sought};
 use std::alloc::Global;
 
 impl Source for Index {
@@ -72,6 +72,17 @@ impl Source for Index {
         into: &mut Sought,
     ) -> Result<(), FetchFault> {
         Index::fetch_sought(self, alloc, store, k, words, listed, into)
+    }
+
+    fn seek(
+        &self,
+        k: u32,
+        from: &ReadBlock,
+        words: (u32, u32),
+        listed: &[bool],
+        into: &mut Vec<Post>,
+    ) -> Result<bool, Memory> {
+        Index::seek(self, k, from, words, listed, into)
     }
 
     fn fetch_scored<S: Store>(

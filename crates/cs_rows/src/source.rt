@@ -1,5 +1,5 @@
 //! Where rows lie: in the blocks of an index, and in memory behind them.
-ghost use Rattle.std.specs.Prelude.{◌≡◌, ◌+◌, ◌≤◌, ◌<◌, false, true, [], filter, length, slice_index_or, IfOk, OnOk};
+ghost use Rattle.std.specs.Prelude.{◌≡◌, ℕ, List, ◌+◌, ◌≤◌, ◌<◌, false, true, [], filter, length, slice_index_or, IfOk, OnOk};
 ghost use Rattle.std.specs.List.{All, list_any};
 ghost use Rattle.std.specs.Option.{ForSome};
 ghost use Rattle.std.specs.Str.{bytes_eq, is_utf8};
@@ -7,6 +7,7 @@ ghost use Rattle.cs_base.specs.declared.content.scores.TheConstants.{MAX_ROW_SCO
 ghost use Rattle.cs_base.specs.outside.Causes.{ReadsWithin};
 ghost use Rattle.cs_file.specs.CallAnswers.{AreScoredOf, IsChangeOfBlock, IsRanged, LeavesStore};
 ghost use Rattle.cs_file.specs.Indexes.{AreMet, HasAllBlocks, StandsFor};
+ghost use Rattle.cs_file.specs.BlockBytes.{FitsBlock, HasFileBytes};
 ghost use Rattle.cs_model_index.specs.Numbered.{word_at};
 ghost use Rattle.cs_tables.specs.WordCounts.{is_chosen};
 ghost use Rattle.cs_vocab.specs.Ranges.{IsRange};
@@ -17,7 +18,7 @@ ghost use Rattle.cs_rows.specs.Sources.{SourceView, seen, title_reads};
 ghost use Rattle.cs_rows.specs.Stocked.{is_between, title_at};
 
 use cs_base::{BlockHead, Memory, Post, Store, Text, Weights};
-use cs_file::{FetchFault, Fetched, Sought};
+use cs_file::{FetchFault, Fetched, ReadBlock, Sought};
 use std::alloc::Global;
 
 /// Rows in the blocks of an index, which are read through a store, and rows in memory behind them.
@@ -102,9 +103,32 @@ pub trait Source {
         ensures sought { OnOk result (All (λ p. is_chosen words.0 words.1 listed.now p ≡ true) into.new.posts.items) }
         ensures stood { ForSome (S.bytes store.old) (λ b. StandsFor b (view self.now).index
             → OnOk result (into.new.posts.items ≡ filter (is_chosen words.0 words.1 listed.now) (slice_index_or ((view self.now).blocks b) k []))) }
+        ensures fits { OnOk result (FitsBlock (view self.now).index into.new.block) }
+        ensures file { ForSome (S.bytes store.old) (λ b. OnOk result (HasFileBytes b into.new.block)) }
         ensures store { LeavesStore S.bytes S.lent S.faults (view self.now).index
             (IsChangeOfBlock (view self.now).index (S.bytes store.old) k) store.old store.new result }
         ensures reads { ReadsWithin 1 (S.reads store.old) (S.reads store.new) };
+
+    /// Puts the rows of block `k` in listed documents whose word's number is `words.0` or more and below `words.1` into a list, in place of
+    /// those that it holds, out of what was read of the block. False, with anything in it, where what was read is another block or breaks a
+    /// rule.
+    fn seek(
+        &self,
+        k: u32,
+        from: &ReadBlock,
+        words: (u32, u32),
+        listed: &[bool],
+        into: &mut Vec<Post>,
+    ) -> Result<bool, Memory>
+        requires in_range { k < length (view self.now).index.heads }
+        requires words { IsWordRange (seen (view self.now)) words.0 words.1 }
+        requires listed { length listed.now ≡ (view self.now).docs }
+        requires fits { FitsBlock (view self.now).index from.now }
+
+        ensures ranged { IfOk result (λ is. is ≡ true → All (IsRanged (seen (view self.now))) into.new.items) }
+        ensures sought { IfOk result (λ is. is ≡ true → All (λ p. is_chosen words.0 words.1 listed.now p ≡ true) into.new.items) }
+        ensures stood { (b : List ℕ) → StandsFor b (view self.now).index → HasFileBytes b from.now → IfOk result (λ is. is ≡ true
+            → into.new.items ≡ filter (is_chosen words.0 words.1 listed.now) (slice_index_or ((view self.now).blocks b) k [])) };
 
     /// Reads the documents, the words and the scores of the rows of block `k` in place of those that `into` holds.
     fn fetch_scored<S: Store>(

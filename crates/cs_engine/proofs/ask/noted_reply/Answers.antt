@@ -17,21 +17,20 @@ use Rattle.cs_engine.proofs.CountedRanges.{counted_fits, counted_held}
 use Rattle.cs_rows.proofs.InsideLemmas.{facets_hit_less}
 use Rattle.cs_engine.proofs.KeepingLemmas.{after_is, behind_fits, good_behind, is_note_plan, kept_behind, kept_is, was_had}
 use Rattle.cs_engine.proofs.LentLemmas.{due_is, err_due, refusal_right}
-use Rattle.cs_engine.proofs.RangeLemmas.{still_held}
 use Rattle.cs_rows.proofs.WalkLemmas.{within_both, within_more}
 use Rattle.cs_engine.proofs.ask.noted_reply.Goals as goal
 
 pub show-shown-requires-clause-held : goal.show-shown-requires-clause-held
-show-shown-requires-clause-held g c = still_held (FitsRange (seen (g.I.Source.view c.args.over.index.now))) _ _ c.find_by.ensures.held c.requires.held
+show-shown-requires-clause-held g c = c.find_by.ensures.held
 
 -- ---- nothing is found
 pub returns-in_err-found-clause-held : goal.returns-in_err-found-clause-held
-returns-in_err-found-clause-held g c = still_held (FitsRange (seen (g.I.Source.view c.args.over.index.now))) _ _ c.find_by.ensures.held c.requires.held
+returns-in_err-found-clause-held g c = c.find_by.ensures.held
 
 pub returns-in_err-found-clause-told : goal.returns-in_err-found-clause-told
 returns-in_err-found-clause-told g c b is stands good =
     refusal_right c.from_residual-in_err-found.result c.from_residual-in_err-found.ensures.0
-    (record { kept = good.kept; held = still_held (IsHeldOver ((g.I.Source.view c.args.over.index.now).stock b)) _ _ c.find_by.ensures.held good.held })
+    (record { kept = good.kept; held = c.find_by.ensures.good b is stands good.held })
 
 pub returns-in_err-found-clause-reads : goal.returns-in_err-found-clause-reads
 returns-in_err-found-clause-reads g c =
@@ -54,7 +53,7 @@ returns-in_err-reply-clause-held g c =
 pub returns-in_err-reply-clause-told : goal.returns-in_err-reply-clause-told
 returns-in_err-reply-clause-told g c b is stands good =
     let found = c.in_ok-found.ensures.told b is stands good.held good.kept in
-    let over = still_held (IsHeldOver ((g.I.Source.view c.args.over.index.now).stock b)) _ _ c.find_by.ensures.held good.held in
+    let over = c.find_by.ensures.good b is stands good.held in
     refusal_right c.from_residual-in_err-reply.result c.from_residual-in_err-reply.ensures.0
     (record {
       kept = good.kept;
@@ -101,7 +100,7 @@ returns-clause-told g c b is stands good =
     let o = c.in_ok-found.found.own in
     let new = c.put-kept.new.answers in
     let found = c.in_ok-found.ensures.told b is stands good.held good.kept in
-    let over = still_held (IsHeldOver ((g.I.Source.view c.args.over.index.now).stock b)) _ _ c.find_by.ensures.held good.held in
+    let over = c.find_by.ensures.good b is stands good.held in
     let at = c.find_by.ensures.store.bytes ∙ is in
     let became = c.put-kept.ensures.became in
     let list : kept_at i.words new.entries ≡ after (kept_at i.words a.entries) a.capacity q c.put-kept.result k =

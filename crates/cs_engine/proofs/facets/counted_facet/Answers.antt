@@ -1,4 +1,4 @@
-use Rattle.std.proofs.Common.{◌*◌, arith, subst, true}
+use Rattle.std.proofs.Common.{◌*◌, arith, subst}
 use Rattle.std.specs.Prelude.{filter}
 use Rattle.cs_base.specs.declared.content.limits.TheConstants.{MAX_PARTS}
 use Rattle.cs_base.specs.declared.content.scores.TheConstants.{MAX_ROW_SCORE}
@@ -7,6 +7,7 @@ use Rattle.cs_rows.specs.Counting.{in_listed}
 use Rattle.cs_engine.specs.HeldRanges.{FitsHolding, FitsRange, IsHeldOver, IsHoldingOver}
 use Rattle.cs_rows.specs.Sources.{seen}
 use Rattle.cs_rows.proofs.PartSteps.{base_in}
+use Rattle.cs_engine.specs.declared.held.HeldKind.TheVariants as kinds
 use Rattle.cs_engine.proofs.RangeLemmas.{goes_by, held_more, others_go, still_held, was_held}
 use Rattle.cs_rows.proofs.SkippingLemmas.{sieve_of}
 use Rattle.cs_rows.proofs.WalkLemmas.{within_more}
@@ -94,12 +95,12 @@ returns-then-reaches_all-clause-told g c b is stands over =
 pub returns-in_err-rows-clause-held : goal.returns-in_err-rows-clause-held
 returns-in_err-rows-clause-held g c =
     still_held (FitsRange (seen (g.I.Source.view c.args.index.now))) _ _
-    (goes_by c.take.result c.args.words.0 c.args.words.1 true c.take.ensures.none c.take.ensures.some) c.requires.held
+    (goes_by c.take.result c.args.words.0 c.args.words.1 kinds.Rows c.take.ensures.none c.take.ensures.some) c.requires.held
 
 pub returns-in_err-rows-clause-good : goal.returns-in_err-rows-clause-good
 returns-in_err-rows-clause-good g c b is stands over =
     still_held (IsHeldOver ((g.I.Source.view c.args.index.now).stock b)) _ _
-    (goes_by c.take.result c.args.words.0 c.args.words.1 true c.take.ensures.none c.take.ensures.some) over
+    (goes_by c.take.result c.args.words.0 c.args.words.1 kinds.Rows c.take.ensures.none c.take.ensures.some) over
 
 pub returns-in_err-rows-clause-reads : goal.returns-in_err-rows-clause-reads
 returns-in_err-rows-clause-reads g c = within_more c.rows_between.ensures.reads (c.reaches_all.ensures c.if-reaches_all.true)
@@ -108,13 +109,13 @@ pub returns-in_err-counts-2-clause-held : goal.returns-in_err-counts-2-clause-he
 returns-in_err-counts-2-clause-held g c =
     let i = seen (g.I.Source.view c.args.index.now) in
     held_more (FitsRange i) c.counted_rows-then-reaches_all.ensures.held c.in_ok-rows.ensures.within
-    (still_held (FitsRange i) _ _ (goes_by c.take.result c.args.words.0 c.args.words.1 true c.take.ensures.none c.take.ensures.some) c.requires.held)
+    (still_held (FitsRange i) _ _ (goes_by c.take.result c.args.words.0 c.args.words.1 kinds.Rows c.take.ensures.none c.take.ensures.some) c.requires.held)
 
 pub returns-in_err-counts-2-clause-good : goal.returns-in_err-counts-2-clause-good
 returns-in_err-counts-2-clause-good g c b is stands over =
     let s = (g.I.Source.view c.args.index.now).stock b in
     held_more (IsHeldOver s) c.counted_rows-then-reaches_all.ensures.held (c.in_ok-rows.ensures.told b is stands)
-    (still_held (IsHeldOver s) _ _ (goes_by c.take.result c.args.words.0 c.args.words.1 true c.take.ensures.none c.take.ensures.some) over)
+    (still_held (IsHeldOver s) _ _ (goes_by c.take.result c.args.words.0 c.args.words.1 kinds.Rows c.take.ensures.none c.take.ensures.some) over)
 
 pub returns-in_err-counts-2-clause-reads : goal.returns-in_err-counts-2-clause-reads
 returns-in_err-counts-2-clause-reads g c = within_more c.rows_between.ensures.reads (c.reaches_all.ensures c.if-reaches_all.true)
@@ -123,13 +124,13 @@ pub returns-then-reaches_all-clause-held : goal.returns-then-reaches_all-clause-
 returns-then-reaches_all-clause-held g c =
     let i = seen (g.I.Source.view c.args.index.now) in
     held_more (FitsRange i) c.counted_rows-then-reaches_all.ensures.held c.in_ok-rows.ensures.within
-    (still_held (FitsRange i) _ _ (goes_by c.take.result c.args.words.0 c.args.words.1 true c.take.ensures.none c.take.ensures.some) c.requires.held)
+    (still_held (FitsRange i) _ _ (goes_by c.take.result c.args.words.0 c.args.words.1 kinds.Rows c.take.ensures.none c.take.ensures.some) c.requires.held)
 
 pub returns-then-reaches_all-clause-good : goal.returns-then-reaches_all-clause-good
 returns-then-reaches_all-clause-good g c b is stands over =
     let s = (g.I.Source.view c.args.index.now).stock b in
     held_more (IsHeldOver s) c.counted_rows-then-reaches_all.ensures.held (c.in_ok-rows.ensures.told b is stands)
-    (still_held (IsHeldOver s) _ _ (goes_by c.take.result c.args.words.0 c.args.words.1 true c.take.ensures.none c.take.ensures.some) over)
+    (still_held (IsHeldOver s) _ _ (goes_by c.take.result c.args.words.0 c.args.words.1 kinds.Rows c.take.ensures.none c.take.ensures.some) over)
 
 pub returns-then-reaches_all-clause-reads : goal.returns-then-reaches_all-clause-reads
 returns-then-reaches_all-clause-reads g c = within_more c.rows_between.ensures.reads (c.reaches_all.ensures c.if-reaches_all.true)
@@ -143,19 +144,19 @@ counted_in_hits-requires-clause-sieve g c =
 pub returns-in_err-counts-3-clause-held : goal.returns-in_err-counts-3-clause-held
 returns-in_err-counts-3-clause-held g c =
     still_held (FitsRange (seen (g.I.Source.view c.args.index.now))) _ _
-    (goes_by c.take.result c.args.words.0 c.args.words.1 true c.take.ensures.none c.take.ensures.some) c.requires.held
+    (goes_by c.take.result c.args.words.0 c.args.words.1 kinds.Rows c.take.ensures.none c.take.ensures.some) c.requires.held
 
 pub returns-in_err-counts-3-clause-good : goal.returns-in_err-counts-3-clause-good
 returns-in_err-counts-3-clause-good g c b is stands over =
     still_held (IsHeldOver ((g.I.Source.view c.args.index.now).stock b)) _ _
-    (goes_by c.take.result c.args.words.0 c.args.words.1 true c.take.ensures.none c.take.ensures.some) over
+    (goes_by c.take.result c.args.words.0 c.args.words.1 kinds.Rows c.take.ensures.none c.take.ensures.some) over
 
 pub returns-clause-held : goal.returns-clause-held
 returns-clause-held g c =
     still_held (FitsRange (seen (g.I.Source.view c.args.index.now))) _ _
-    (goes_by c.take.result c.args.words.0 c.args.words.1 true c.take.ensures.none c.take.ensures.some) c.requires.held
+    (goes_by c.take.result c.args.words.0 c.args.words.1 kinds.Rows c.take.ensures.none c.take.ensures.some) c.requires.held
 
 pub returns-clause-good : goal.returns-clause-good
 returns-clause-good g c b is stands over =
     still_held (IsHeldOver ((g.I.Source.view c.args.index.now).stock b)) _ _
-    (goes_by c.take.result c.args.words.0 c.args.words.1 true c.take.ensures.none c.take.ensures.some) over
+    (goes_by c.take.result c.args.words.0 c.args.words.1 kinds.Rows c.take.ensures.none c.take.ensures.some) over

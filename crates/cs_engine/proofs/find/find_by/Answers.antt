@@ -96,6 +96,7 @@ find_last-requires g c =
     record {
       some = lent.0;
       base = first_in c.args.over.query.now c.in_ok-hits-in-Extend.hits lent.1 c.in_ok-hits-in-Extend.ensures;
+      held = c.requires.held;
       over = c.requires.over;
     }
 
@@ -106,7 +107,7 @@ returns-in_ok-found-in-Extend-clause-told g c b is stands held good =
     let lent = extend_lent c.requires.over.query c.requires.planned _ _ c.view-view-in-Extend.ensures.base c.view-view-in-Extend.ensures.rows c.in-Extend.is in
     let found = found_by_entry v (before_last c.args.over.query.now) e (last_is_positive (before_last c.args.over.query.now)) refl
     c.in_ok-hits-in-Extend.hits c.in_ok-hits-in-Extend.ensures b stands c.requires.over.opened.source (lent.2 (corpus_in (v.stock b)) good) in
-    c.in_ok-found-in-Extend.ensures.told b is stands found.base c.args.plan
+    c.in_ok-found-in-Extend.ensures.told b is stands held found.base c.args.plan
 
 pub returns-in_err-found-in-Extend-clause-reads : goal.returns-in_err-found-in-Extend-clause-reads
 returns-in_err-found-in-Extend-clause-reads g c =

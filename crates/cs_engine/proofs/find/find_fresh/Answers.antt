@@ -7,6 +7,8 @@ use Rattle.cs_model.specs.Keys.{last_of}
 use Rattle.cs_model_kept.specs.KeptListLaws.{before_last}
 use Rattle.cs_rows.specs.IndexReading.{division}
 use Rattle.cs_engine.specs.Finding.{AsksAlone}
+use Rattle.cs_engine.specs.HeldRanges.{FitsRange, IsHeldOver}
+use Rattle.cs_engine.proofs.RangeLemmas.{still_held}
 use Rattle.cs_rows.specs.Sources.{seen}
 use Rattle.cs_rows.specs.Steps.{IsBaseOf}
 use Rattle.cs_rows.proofs.InsideLemmas.{last_hits_less}
@@ -53,6 +55,20 @@ returns-in_err-found-2-clause-reads g c =
     within_more c.in_err-found-2.ensures.reads (alone_met (g.I.Source.view c.args.over.index.now) c.args.over.query.now c.as_slice-parts.ensures
     c.in-Some.ensures.alone)
 
+pub returns-in_err-found-2-clause-held : goal.returns-in_err-found-2-clause-held
+returns-in_err-found-2-clause-held g c = still_held (FitsRange (seen (g.I.Source.view c.args.over.index.now))) _ _ c.in_err-found-2.ensures.held c.requires.held
+
+pub returns-in_err-found-2-clause-good : goal.returns-in_err-found-2-clause-good
+returns-in_err-found-2-clause-good g c b is stands good =
+    still_held (IsHeldOver ((g.I.Source.view c.args.over.index.now).stock b)) _ _ c.in_err-found-2.ensures.held good
+
+pub returns-in-Some-clause-held : goal.returns-in-Some-clause-held
+returns-in-Some-clause-held g c = still_held (FitsRange (seen (g.I.Source.view c.args.over.index.now))) _ _ c.in_ok-found-2.ensures.held c.requires.held
+
+pub returns-in-Some-clause-good : goal.returns-in-Some-clause-good
+returns-in-Some-clause-good g c b is stands good =
+    still_held (IsHeldOver ((g.I.Source.view c.args.over.index.now).stock b)) _ _ c.in_ok-found-2.ensures.held good
+
 -- ---- the parts before the last, and that one
 pub returns-in_err-hits-clause-reads : goal.returns-in_err-hits-clause-reads
 returns-in_err-hits-clause-reads g c =
@@ -78,7 +94,7 @@ pub returns-clause-told : goal.returns-clause-told
 returns-clause-told g c b is stands held =
     let q = c.args.over.query.now in
     let are = ap (λ (xs : List Part). take (length xs - 1) xs) c.as_slice-parts.ensures in
-    c.in_ok-found-3.ensures.told b (c.hits_of_parts.ensures.store.bytes ∙ is) stands
+    c.in_ok-found-3.ensures.told b (c.hits_of_parts.ensures.store.bytes ∙ is) stands held
     (c.in_ok-hits.ensures.told b is stands (before_last q) (first_parts q _ are))
 
 pub returns-clause-reads : goal.returns-clause-reads

@@ -18,7 +18,7 @@ found_behind-requires-clause-base g c =
     (omega (arith, few)) c.requires.asks.base
 
 pub returns-clause-told : goal.returns-clause-told
-returns-clause-told g c b is stands by many p =
+returns-clause-told g c b is stands gathered by many p =
     let v = g.I.Source.view c.args.over.index.now in
     let q = c.args.over.query.now in
     let hits = c.args.hits.now in
@@ -27,7 +27,7 @@ returns-clause-told g c b is stands by many p =
     let listed = c.args.listed.now in
     let source = c.requires.over.opened.source in
     let posts = (v.stock b).posts in
-    let found = c.in_ok-found.ensures.told b is stands in
+    let found = c.in_ok-found.ensures.told b is stands gathered in
     record {
       table = table_counted (found_counts v q hits lo hi c.requires.asks b stands source by _ _ found) c.in_ok-table.ensures.total c.in_ok-table.ensures.first;
       own = tt;

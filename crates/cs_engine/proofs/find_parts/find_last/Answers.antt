@@ -35,7 +35,7 @@ found_with-requires g c =
     }
 
 pub returns-then-lists_none-clause-told : goal.returns-then-lists_none-clause-told
-returns-then-lists_none-clause-told g c b is stands over =
+returns-then-lists_none-clause-told g c b is stands good over =
     let q = c.args.over.query.now in
     let v = (g.I.Source.view c.args.over.index.now) in
     let s = v.stock b in
@@ -72,11 +72,11 @@ returns-in_err-found-clause-reads g c =
     within_more c.in_err-found.ensures.reads (omega (arith, met, few))
 
 pub returns-in-Some-clause-told : goal.returns-in-Some-clause-told
-returns-in-Some-clause-told g c b is stands over =
+returns-in-Some-clause-told g c b is stands good over =
     let q = c.args.over.query.now in
     let x = c.index-parts-last.result in
     let last = is_last {q = q} c.requires.some c.as_slice-parts.ensures c.index-parts-last.is in
-    c.in_ok-found.ensures.told b is stands
+    c.in_ok-found.ensures.told b is stands good
     (more_by_words q b (g.I.Source.view c.args.over.index.now) stands c.requires.over.opened.source x c.args.hits c.in-Some.words.0 c.in-Some.words.1
     last over c.in-Some.ensures.positive
     c.in-Some.ensures.words)
@@ -123,7 +123,7 @@ returns-in_err-found-2-clause-reads g c =
     within_more c.extended_entry.ensures.reads (omega (arith, met))
 
 pub returns-clause-told : goal.returns-clause-told
-returns-clause-told g c b is stands over =
+returns-clause-told g c b is stands good over =
     let q = c.args.over.query.now in
     let v = (g.I.Source.view c.args.over.index.now) in
     let x = c.index-parts-last.result in

@@ -1,4 +1,5 @@
-use Rattle.std.proofs.Common.{false, subst}
+use Rattle.std.proofs.Common.{subst}
+use Rattle.cs_engine.specs.declared.held.HeldKind.TheVariants as kinds
 use Rattle.cs_engine.specs.HeldRanges.{FitsHolding, FitsRange, IsHeldOver, IsHoldingOver}
 use Rattle.cs_rows.specs.Sources.{seen}
 use Rattle.cs_engine.proofs.RangeLemmas.{goes_by, others_go, was_held}
@@ -25,7 +26,7 @@ returns-in-Some-Counted-clause-held g c = others_go c.in-Some-Counted.ensures.so
 
 -- ---- what is read
 pub returns-in_err-found-clause-held : goal.returns-in_err-found-clause-held
-returns-in_err-found-clause-held g c = goes_by c.take.result c.args.words.0 c.args.words.1 false c.take.ensures.none c.take.ensures.some
+returns-in_err-found-clause-held g c = goes_by c.take.result c.args.words.0 c.args.words.1 kinds.Counted c.take.ensures.none c.take.ensures.some
 
 pub returns-clause-held : goal.returns-clause-held
-returns-clause-held g c = goes_by c.take.result c.args.words.0 c.args.words.1 false c.take.ensures.none c.take.ensures.some
+returns-clause-held g c = goes_by c.take.result c.args.words.0 c.args.words.1 kinds.Counted c.take.ensures.none c.take.ensures.some

@@ -1,4 +1,4 @@
-use Rattle.std.proofs.Common.{◌≡◌, ◌+◌, ◌<◌, ◌≤◌, ◌*◌, ◌-◌, ◌++◌, [], sym, ◌∙◌, ap, subst, length, map, get_or, arith}
+use Rattle.std.proofs.Common.{◌≡◌, ◌+◌, ◌<◌, ◌≤◌, ◌*◌, ◌-◌, ◌++◌, [], sym, ◌∙◌, ap, subst, length, map, get_or, refl, arith}
 use Rattle.std.specs.Prelude.{All, filter}
 use Rattle.std.proofs.lemmas.List.Elements.{All-weaker}
 use Rattle.cs_base.specs.declared.content.doc.Base.TheVariants as base
@@ -47,7 +47,6 @@ loop-k-init g c =
     let v = (g.I.Source.view c.args.index.now) in
     let from = c.args.gathered.now in
     let had = c.requires.gathered in
-    let h = had.keys in
     let lo = c.args.words.0 in
     let hi = c.args.words.1 in
     let listed = c.args.listed.now in
@@ -56,16 +55,18 @@ loop-k-init g c =
       walk = hits_begin (hit_blocks c.args.hits.now v.index.heads from.next from.next);
       low = c.count_keys.ensures.low ∙ c.in_ok-counts.ensures.low;
       high = c.count_keys.ensures.high ∙ c.in_ok-counts.ensures.high;
-      told = λ b is stands.
+      told = λ b is stands own.
+          let h = own.keys in
           let same = ap (map (post_of_key v.index.weights)) c.deref.ensures.value ∙ as_they_come v.index.weights h.rows from.keys.items h.are h.packed
-          ∙ h.run b is stands in
+          ∙ h.run b refl stands in
           let few = run_countable b v stands c.requires.opened.source from.first from.next lo hi listed had.onward upto in
           subst (λ rows. HasCounted rows c.count_keys.new.counts) same
           (c.count_keys.ensures.counted v.index.weights (subst AreCountable (sym same) few) c.in_ok-counts.ensures.none);
-      scored = λ b is stands.
+      scored = λ b is stands own.
+          let h = own.keys in
           let same = ap (λ (w : Weights). map (post_of_key w) c.deref-2.result.now) c.weights.ensures
           ∙ ap (map (post_of_key v.index.weights)) c.deref-2.ensures.value ∙ as_they_come v.index.weights h.rows from.keys.items h.are h.packed
-          ∙ h.run b is stands in
+          ∙ h.run b refl stands in
           subst (λ rows. HasBestScores rows c.raise_keys.new.best.items) same (c.raise_keys.ensures.best [] c.in_ok-best.ensures.none);
       len = c.raise_keys.ensures.len ∙ c.in_ok-best.ensures.long ∙ c.docs.ensures;
     }
@@ -97,14 +98,14 @@ loop-k-preserved-then-not-may_hit g c =
       walk = hits_skip inv.walk (omega (arith, on));
       low = inv.low;
       high = inv.high;
-      told = λ b is stands.
+      told = λ b is stands own.
           blocks_counted b v stands c.requires.opened.source from.first c.loop-k.k lo hi listed c.loop-k.counts c.loop-k.counts onward below inv.low inv.high
           (λ seen few has. nothing_more (λ rows. HasCounted rows c.loop-k.counts) seen _
-          (skipped _ v hits listed is_sieve b stands c.loop-k.k c.loop-k.counts.low c.loop-k.counts.high below none) has) (inv.told b is stands);
-      scored = λ b is stands.
+          (skipped _ v hits listed is_sieve b stands c.loop-k.k c.loop-k.counts.low c.loop-k.counts.high below none) has) (inv.told b is stands own);
+      scored = λ b is stands own.
           best_more b v stands c.requires.opened.source lo hi listed from.first c.loop-k.k c.loop-k.best.items c.loop-k.best.items onward below
           (λ seen has. nothing_more (λ rows. HasBestScores rows c.loop-k.best.items) seen _
-          (skipped _ v hits listed is_sieve b stands c.loop-k.k lo hi below none) has) (inv.scored b is stands);
+          (skipped _ v hits listed is_sieve b stands c.loop-k.k lo hi below none) has) (inv.scored b is stands own);
       len = inv.len;
     }
 
@@ -161,17 +162,17 @@ loop-k-preserved g c =
       walk = hits_go_on inv.walk read.store read.reads (on ∙ ap (λ n. hit_blocks hits v.index.heads from.next c.loop-k.k + n) one);
       low = c.add_rows.ensures.low ∙ inv.low;
       high = c.add_rows.ensures.high ∙ inv.high;
-      told = λ b is stands.
+      told = λ b is stands own.
           let posts = read.stood b (inv.walk.store.bytes ∙ is) stands in
           blocks_counted b v stands c.requires.opened.source from.first c.loop-k.k lo hi listed c.loop-k.counts c.add_rows.new.self
           onward below inv.low inv.high
           (c.add_rows.ensures.counted (get_or (v.blocks b) c.loop-k.k []) (c.deref-in-loop-k.ensures.value ∙ posts.0.0)
           (c.deref-in-loop-k-2.ensures.value ∙ posts.0.1))
-          (inv.told b is stands);
-      scored = λ b is stands.
+          (inv.told b is stands own);
+      scored = λ b is stands own.
           best_more b v stands c.requires.opened.source lo hi listed from.first c.loop-k.k c.loop-k.best.items
           c.raise_rows.new.best.items onward below
-          (c.raise_rows.ensures.best (get_or (v.blocks b) c.loop-k.k []) (read.stood b (inv.walk.store.bytes ∙ is) stands)) (inv.scored b is stands);
+          (c.raise_rows.ensures.best (get_or (v.blocks b) c.loop-k.k []) (read.stood b (inv.walk.store.bytes ∙ is) stands)) (inv.scored b is stands own);
       len = c.raise_rows.ensures.len ∙ inv.len;
     }
 
@@ -213,7 +214,7 @@ pub raise_held-requires-clause-long : goal.raise_held-requires-clause-long
 raise_held-requires-clause-long g c = c.requires.listed.long ∙ c.requires.opened.source.long ∙ sym c.loop-k.invariant.len
 
 pub returns-clause-told : goal.returns-clause-told
-returns-clause-told g c b is stands =
+returns-clause-told g c b is stands own =
     let v = (g.I.Source.view c.args.index.now) in
     let source = c.requires.opened.source in
     let inv = c.loop-k.invariant in
@@ -234,8 +235,8 @@ returns-clause-told g c b is stands =
     let rows = run ++ filter t held in
     let whole : rows ≡ run ++ filter t v.held = ap (λ ps. run ++ ps) (held_chosen v lo hi listed held c.held-held.ensures) in
     let few = subst AreCountable (sym whole) (chosen_countable b v stands source first last lo hi listed met) in
-    let counted = subst (λ k. HasCounted (counted_rows (v.blocks b) first k lo hi listed) c.loop-k.counts) done (inv.told b is stands) in
-    let scored = subst (λ k. HasBestScores (run_of (v.blocks b) first k t) c.loop-k.best.items) done (inv.scored b is stands) in
+    let counted = subst (λ k. HasCounted (counted_rows (v.blocks b) first k lo hi listed) c.loop-k.counts) done (inv.told b is stands own) in
+    let scored = subst (λ k. HasBestScores (run_of (v.blocks b) first k t) c.loop-k.best.items) done (inv.scored b is stands own) in
     let best = c.raise_held.new.best.items in
     let table = ap post_table whole ∙ chosen_table b v stands source first last lo hi listed met
     ∙ ap post_table (rows_are b v stands source lo hi listed hits lists) in

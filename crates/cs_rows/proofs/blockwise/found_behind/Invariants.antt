@@ -1,7 +1,8 @@
-use Rattle.std.proofs.Common.{◌≡◌, length}
+use Rattle.std.proofs.Common.{◌≡◌, Some, length}
 use Rattle.cs_tables.specs.WordCounts.{HasCounted, is_chosen}
 use Rattle.cs_rows.specs.Counting.{counted_rows}
 use Rattle.cs_rows.specs.BestScores.{HasBestScores}
+use Rattle.cs_rows.specs.GatheredRows.{HasGathered}
 use Rattle.cs_rows.specs.IndexReading.{WhereStood, run_of}
 use Rattle.cs_rows.specs.Skipping.{hit_blocks}
 use Rattle.cs_rows.proofs.SkippingLemmas.{HitWalk}
@@ -14,8 +15,10 @@ invariant-loop-k g l = record {
   low : l.counts.low ≡ l.words.0;
   high : l.counts.high ≡ l.words.1;
   told : WhereStood (g.S.Store.bytes l.fn.store) (g.I.Source.view l.index).index
-      (λ b. HasCounted (counted_rows ((g.I.Source.view l.index).blocks b) l.gathered.first l.k l.words.0 l.words.1 l.listed) l.counts);
+      (λ b. HasGathered (g.I.Source.view l.index) (Some b) l.words.0 l.words.1 l.listed l.gathered
+      → HasCounted (counted_rows ((g.I.Source.view l.index).blocks b) l.gathered.first l.k l.words.0 l.words.1 l.listed) l.counts);
   scored : WhereStood (g.S.Store.bytes l.fn.store) (g.I.Source.view l.index).index
-      (λ b. HasBestScores (run_of ((g.I.Source.view l.index).blocks b) l.gathered.first l.k (is_chosen l.words.0 l.words.1 l.listed)) l.best.items);
+      (λ b. HasGathered (g.I.Source.view l.index) (Some b) l.words.0 l.words.1 l.listed l.gathered
+      → HasBestScores (run_of ((g.I.Source.view l.index).blocks b) l.gathered.first l.k (is_chosen l.words.0 l.words.1 l.listed)) l.best.items);
   len : length l.best.items ≡ (g.I.Source.view l.index).docs;
 }

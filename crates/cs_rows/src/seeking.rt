@@ -1,0 +1,122 @@
+//! The numbers of rows of some words, sought in blocks that were read before, or are read to be sought in again.
+ghost use Rattle.std.specs.Prelude.{◌≡◌, ◌<◌, ◌≤◌, ◌^◌, ℕ, List, Option, Some, length, IfOk, OnOk};
+ghost use Rattle.std.specs.List.{All};
+ghost use Rattle.std.specs.Option.{ForSome};
+ghost use Rattle.cs_base.specs.outside.Causes.{ReadsWithin};
+ghost use Rattle.cs_file.specs.CallAnswers.{IsChangeOfBlock, LeavesStore};
+ghost use Rattle.cs_file.specs.Indexes.{HasAllBlocks, IndexView};
+ghost use Rattle.cs_file.specs.BlockBytes.{FitsBlock, HasFileBytes};
+ghost use Rattle.cs_tables.specs.WordCounts.{is_chosen};
+ghost use Rattle.cs_rows.specs.GatheredRows.{HasGathered};
+ghost use Rattle.cs_rows.specs.IndexReading.{IsWordRange, OnlyReads};
+ghost use Rattle.cs_rows.specs.Packing.{AreFrom};
+ghost use Rattle.cs_rows.specs.Skipping.{IsSieve, hit_blocks, hit_met};
+ghost use Rattle.cs_rows.specs.Sources.{IsSource, seen};
+
+use crate::bounds::may_hit;
+use crate::gathering::GatheredKeys;
+use crate::packing::pack;
+use crate::source::Source;
+use cs_base::{Base, Memory, Store};
+use cs_file::{FetchFault, ReadBlock, Sought};
+use std::alloc::Global;
+
+/// As `gather_keys` gives them, out of what was read of blocks before. `blocks` begin with the first that holds such a word; one that
+/// is sought in and isn't there yet is read, and put there.
+pub fn gather_held<I: Source, S: Store>(
+    alloc: Global,
+    index: &I,
+    store: &mut S,
+    words: (u32, u32),
+    hits: &Base,
+    listed: &[bool],
+    room: usize,
+    blocks: &mut Vec<ReadBlock>,
+) -> Result<GatheredKeys, FetchFault>
+    requires words { IsWordRange (seen (I.view index.now)) words.0 words.1 }
+    requires sieve { IsSieve (S.bytes store.old) (I.view index.now) hits.now listed.now }
+    requires fit { All (FitsBlock (I.view index.now).index) blocks.old.items }
+
+    ensures gathered { (told : Option (List ℕ)) → ForSome told (λ b. (S.bytes store.old ≡ Some b) × All (HasFileBytes b) blocks.old.items)
+        → IfOk result (λ g. HasGathered (I.view index.now) told words.0 words.1 listed.now g) }
+    ensures whole { IfOk result (λ g. g.next < g.last → (room < length g.keys.items) × (length g.keys.items < 2 ^ 64)) }
+    ensures fit { All (FitsBlock (I.view index.now).index) blocks.new.items }
+    ensures file { ForSome (S.bytes store.old) (λ b. All (HasFileBytes b) blocks.old.items → All (HasFileBytes b) blocks.new.items) }
+    ensures store { OnlyReads S.bytes S.lent S.faults (I.view index.now).index store.old store.new result }
+    ensures read { IfOk result (λ g. ReadsWithin (hit_blocks hits.now (I.view index.now).index.heads g.first g.next) (S.reads store.old) (S.reads store.new)) }
+    ensures reads { ReadsWithin (hit_met (I.view index.now) hits.now words.0 words.1) (S.reads store.old) (S.reads store.new) }
+{
+    let weights = index.weights();
+    let (first, last) = index.blocks(words);
+    add_places(alloc, blocks, (last - first) as usize)?;
+    let mut keys = Vec::new(alloc);
+    let mut sought = Sought::new(alloc);
+    for k in first..last {
+        if keys.len() > room {
+            return Ok(GatheredKeys {
+                keys,
+                first,
+                next: k,
+                last,
+            });
+        }
+        if !may_hit(hits, index.head(k)) {
+            continue;
+        }
+        let block = &mut blocks[(k - first) as usize];
+        seek_block(alloc, index, store, k, words, listed, block, &mut sought)?;
+        pack(weights, &sought.posts, &mut keys)?;
+    }
+    Ok(GatheredKeys {
+        keys,
+        first,
+        next: last,
+        last,
+    })
+}
+
+// Sees to it that there are so many places, those behind the ones that there are without a block.
+fn add_places(alloc: Global, blocks: &mut Vec<ReadBlock>, many: usize) -> Result<(), Memory>
+    ensures places { OnOk result (many ≤ length blocks.new.items) }
+    ensures fit { (i : IndexView) → All (FitsBlock i) blocks.old.items → All (FitsBlock i) blocks.new.items }
+    ensures file { (b : List ℕ) → All (HasFileBytes b) blocks.old.items → All (HasFileBytes b) blocks.new.items }
+{
+    for _ in blocks.len()..many {
+        blocks.push(ReadBlock::none(alloc))?;
+    }
+    Ok(())
+}
+
+// The rows of block `k` that are sought, out of what was read of it, or else read.
+fn seek_block<I: Source, S: Store>(
+    alloc: Global,
+    index: &I,
+    store: &mut S,
+    k: u32,
+    words: (u32, u32),
+    listed: &[bool],
+    block: &mut ReadBlock,
+    sought: &mut Sought,
+) -> Result<(), FetchFault>
+    requires in_range { k < length (I.view index.now).index.heads }
+    requires words { IsWordRange (seen (I.view index.now)) words.0 words.1 }
+    requires listed { length listed.now ≡ (I.view index.now).docs }
+    requires source { IsSource (I.view index.now) }
+    requires fits { HasAllBlocks (S.bytes store.old) (I.view index.now).index }
+    requires fit { FitsBlock (I.view index.now).index block.old }
+
+    ensures rows { (told : Option (List ℕ)) → ForSome told (λ b. (S.bytes store.old ≡ Some b) × HasFileBytes b block.old)
+        → OnOk result (AreFrom (I.view index.now) told k (is_chosen words.0 words.1 listed.now) sought.new.posts.items) }
+    ensures fit { FitsBlock (I.view index.now).index block.new }
+    ensures file { ForSome (S.bytes store.old) (λ b. HasFileBytes b block.old → HasFileBytes b block.new) }
+    ensures store { LeavesStore S.bytes S.lent S.faults (I.view index.now).index
+        (IsChangeOfBlock (I.view index.now).index (S.bytes store.old) k) store.old store.new result }
+    ensures reads { ReadsWithin 1 (S.reads store.old) (S.reads store.new) }
+{
+    if index.seek(k, block, words, listed, &mut sought.posts)? {
+        return Ok(());
+    }
+    index.fetch_sought(alloc, store, k, words, listed, sought)?;
+    *block = sought.take_block(alloc);
+    Ok(())
+}
