@@ -98,6 +98,7 @@ LINES = b"q=t\nq=ty\nq=typ\nq=typ+s\nq=typ+se\nq=typ\n"
 WIDE = LINES + b"q=a&h=100&c=100&f=author,year\nq=a|s|t&f=venue\nq=author:&c=100\nq=author[a]+s\nq=the..a\nq=&h=100\n" + LINES
 SMALL = {"ask": b"q=typ\n", "replay": LINES, "excerpts": b"q=typ\nq=type+search\n", "serve": b"q=typ&f=author\nq=typ&f=author\n"}
 LARGE = dict.fromkeys(SMALL, WIDE)
+CHANGES = {"live-add": b"add A typed search\tauthor=Bast\tsome text\n", "live-delete": b"del 1\n"}    # the last line, as others would depend on it
 COPIES = 40
 CUT = ((0, b""), (1, b""), (0, b"GET /search?q= HT"), (1, b"a" * 4096), (1, b"a" * 4096), (0, b"TP/1.1\r\n\r\n"), (0, None), (1, None))
 
@@ -149,6 +150,7 @@ def cases(program, folder, documents, lines):
         Case("ask", ["ask", "C", "Q"], {"C": documents, "Q": lines["ask"]}),
         Case("ask-pipe", ["ask", "C", "/dev/stdin"], {"C": documents}, piped=lines["replay"]),
         Case("replay", ["replay", "I", "Q"], {"I": index, "Q": lines["replay"]}),
+        *(Case(name, ["live", "I", "Q"], {"I": index, "Q": lines["replay"] + line}) for name, line in CHANGES.items()),
         Case("excerpts", ["excerpts", "C", "Q"], {"C": documents, "Q": lines["excerpts"]}),
         Case("build", ["build", "C", "I"], {"C": documents, "I": OLDER}, "I"),
         Case("build-anew", ["build", "C", "I"], {"C": documents}, "I"),
