@@ -1,10 +1,10 @@
 -- A write of one name: what it leaves of the other names, and what of the bytes of its own.
-use Rattle.std.proofs.Common.{◌≡◌, ◌⊎◌, inl, inr, ℕ, true, List, ◌++◌, cond, sym, ◌∙◌, ap, subst}
+use Rattle.std.proofs.Common.{◌≡◌, ◌⊎◌, inl, inr, ℕ, false, true, List, ◌++◌, cond, refl, sym, ◌∙◌, ap, subst}
 use Rattle.std.specs.Prelude.{Option, Some, None, Result, Ok, Err, OnOk, OnErr, take}
 use Rattle.std.specs.Option.{option_map, is_some, ForSome}
 use Rattle.std.specs.FinMap.{get, insert}
 use Rattle.std.proofs.lemmas.Option.{none-some, same_Some}
-use Rattle.cs_base.specs.outside.Outside.{File, Held, Sets, Grew, bytes_of, file_bytes, appended, finished, empty_file, whole_file, but_for}
+use Rattle.cs_base.specs.outside.Outside.{File, Held, Sets, Grew, bytes_of, file_bytes, appended, finished, empty_file, whole_file, but_for, is_file_finished}
 use Rattle.cs_base.proofs.NameMaps.{get_after, name_itself, overwritten}
 
 -- what a name holds behind a write of it
@@ -16,6 +16,13 @@ pub held_after : (old new : Option Held) (n : List ℕ) (f : Option File → Fil
 held_after None new n f e h is = absurd (none-some h (sym e ∙ is))
 held_after (Some h0) new n f e h is =
     subst (λ x. is_some (get x n) ≡ true) (same_Some _ _ (sym e ∙ is)) (ap (λ o. is_some o) (get_itself h0 n (f (get h0 n))))
+
+-- a name holds no finished file behind a write of one that isn't finished
+pub open_after : (old new : Option Held) (n : List ℕ) (f : Option File → File) → ((o : Option File) → (f o).finished ≡ false) → Sets old n f new
+    → ForSome new (λ h. is_file_finished (get h n) ≡ false)
+open_after None new n f u e h is = absurd (none-some h (sym e ∙ is))
+open_after (Some h0) new n f u e h is =
+    subst (λ x. is_file_finished (get x n) ≡ false) (same_Some _ _ (sym e ∙ is)) (ap (λ o. is_file_finished o) (get_itself h0 n (f (get h0 n))) ∙ u (get h0 n))
 
 -- a file that is appended to grows
 pub grew : (old new : Option Held) (n b : List ℕ) → Sets old n (appended b) new → Grew (file_bytes old n) b (file_bytes new n)
@@ -54,6 +61,10 @@ module _ (old new : Option Held) (n : List ℕ) where
     pub held_appended : {T E : Type 0} (r : Result T E) → OnOk r (Sets old n (appended b) new) → OnErr r ((k : ℕ) × Sets old n (appended (take k b)) new) → ForSome new (λ h. is_some (get h n) ≡ true)
     held_appended (Ok x) ok err = held_after old new n (appended b) ok
     held_appended (Err y) ok err = held_after old new n (appended (take err.0 b)) err.1
+
+    pub open_appended : {T E : Type 0} (r : Result T E) → OnOk r (Sets old n (appended b) new) → OnErr r ((k : ℕ) × Sets old n (appended (take k b)) new) → ForSome new (λ h. is_file_finished (get h n) ≡ false)
+    open_appended (Ok x) ok err = open_after old new n (appended b) (λ _. refl) ok
+    open_appended (Err y) ok err = open_after old new n (appended (take err.0 b)) (λ _. refl) err.1
 
     pub others_appended : {T E : Type 0} (r : Result T E) → OnOk r (Sets old n (appended b) new) → OnErr r ((k : ℕ) × Sets old n (appended (take k b)) new) → but_for n new ≡ but_for n old
     others_appended (Ok x) ok err = others_after old new n (appended b) ok

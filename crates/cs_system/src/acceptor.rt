@@ -1,5 +1,5 @@
 //! Who lets connections in.
-ghost use Rattle.std.specs.Prelude.{◌≡◌, ◌≤◌, ◌+◌, ◌-◌, ◌^◌, min, true, false, IsSome};
+ghost use Rattle.std.specs.Prelude.{◌≡◌, ◌↔◌, ◌≤◌, ◌+◌, ◌-◌, ◌^◌, min, true, false, IsSome};
 ghost use Rattle.cs_system.specs.declared.bounds.TheConstants.{ACCEPT_TRIES};
 ghost use Rattle.cs_system.specs.SystemErrors.{SaysNobody};
 
@@ -133,8 +133,7 @@ impl<L: Accept + Drop> Acceptor<L> {
 
     /// Whether serving ends, since nobody could be let in for long and nobody is there.
     pub fn gives_up(&self, is_deserted: bool) -> bool
-        ensures deserted { result ≡ true → is_deserted ≡ true }
-        ensures tried { result ≡ true → ACCEPT_TRIES ≤ self.now.failures }
+        ensures { result ≡ true ↔ ((is_deserted ≡ true) × (ACCEPT_TRIES ≤ self.now.failures)) }
     {
         is_deserted && self.failures >= ACCEPT_TRIES
     }

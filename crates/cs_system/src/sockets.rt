@@ -1,5 +1,6 @@
 //! The sockets of the connections, and whose turn it is.
-ghost use Rattle.std.specs.Prelude.{◌≡◌, ℕ, Option, IfSome, true};
+ghost use Rattle.std.specs.Prelude.{◌≡◌, ◌≤◌, ℕ, Option, IfSome, true};
+ghost use Rattle.cs_system.specs.declared.bounds.TheConstants.{KEPT_MOST};
 ghost use Rattle.cs_system.specs.{Living.{IsSocketTurn, IsSocketStep}, Seats.{HasSeat}};
 
 use crate::bounds::{KEPT_MOST, SWEEP, TURNS};
@@ -353,7 +354,9 @@ impl Sockets {
     }
 
     /// Sends bytes on a connection.
-    pub fn send(&mut self, number: u32, bytes: &[u8]) -> io::Result<()> {
+    pub fn send(&mut self, number: u32, bytes: &[u8]) -> io::Result<()>
+        ensures { self.old.kept ≤ KEPT_MOST → self.new.kept ≤ KEPT_MOST }
+    {
         let now = self.now;
         let Some(key) = self.key_of(number) else {
             return Err(ErrorKind::NotConnected.into());

@@ -1,5 +1,5 @@
 //! A TCP listener on this machine as the hub that the program meets.
-ghost use Rattle.std.specs.Prelude.{◌≡◌, [], None, IfOk};
+ghost use Rattle.std.specs.Prelude.{◌≡◌, ◌↔◌, [], None, true, IfOk};
 ghost use Rattle.cs_system.specs.Living.{IsSocketTurn, AreBelow};
 
 use crate::bounds::MOST_SOCKETS;
@@ -217,9 +217,16 @@ fn settle<C: Clock>(
     opened: u32,
     conns: u32,
 ) {
-    if live.is_empty() && opened == conns {
+    if is_over(live.is_empty(), opened, conns) {
         if let Some(event_loop) = event_loop {
             event_loop.settle(clock);
         }
     }
+}
+
+// Whether nothing comes any more: none is live, and all were opened.
+fn is_over(is_deserted: bool, opened: u32, conns: u32) -> bool
+    ensures { result ≡ true ↔ ((is_deserted ≡ true) × (opened ≡ conns)) }
+{
+    is_deserted && opened == conns
 }

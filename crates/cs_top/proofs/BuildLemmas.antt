@@ -10,7 +10,7 @@ use Rattle.std.specs.Option.{option_map, is_some, ForSome}
 use Rattle.std.specs.FinMap.{get, insert}
 use Rattle.std.proofs.lemmas.List.{take_all}
 use Rattle.std.proofs.lemmas.Option.{none-some, same_Some}
-use Rattle.cs_base.specs.outside.Outside.{File, Held, Sets, Grew, GrewByPrefix, bytes_of, file_bytes, empty_file, but_for}
+use Rattle.cs_base.specs.outside.Outside.{File, Held, Sets, Grew, GrewByPrefix, bytes_of, file_bytes, empty_file, but_for, is_file_finished}
 use Rattle.std.specs.Str.{bytes_eq}
 use Rattle.cs_base.proofs.NameMaps.{get_after, overwritten, same, same_name}
 use Rattle.cs_base.proofs.FileLemmas.{get_itself}
@@ -40,20 +40,20 @@ put_back k n f e = same k _ (λ q. sym (get_after (insert k n empty_file) n f q 
 
 -- it is begun
 pub begun_by : (old made grown : Option Held) (n b : List ℕ) → Sets old n (λ _. empty_file) made → GrewByPrefix (file_bytes made n) b (file_bytes grown n) → but_for n grown ≡ but_for n made
-    → ForSome grown (λ h. is_some (get h n) ≡ true) → IsBegun old n b grown
-begun_by None made None n b m g o h = inl refl
-begun_by None made (Some k) n b m g o h = absurd (none-some _ (sym (ap (but_for n) m) ∙ sym o))
-begun_by (Some h0) made None n b m g o h = absurd (none-some _ (o ∙ ap (but_for n) m))
-begun_by (Some h0) made (Some k) n b m g o h =
+    → ForSome grown (λ h. is_some (get h n) ≡ true) → ForSome grown (λ h. is_file_finished (get h n) ≡ false) → IsBegun old n b grown
+begun_by None made None n b m g o h u = inl refl
+begun_by None made (Some k) n b m g o h u = absurd (none-some _ (sym (ap (but_for n) m) ∙ sym o))
+begun_by (Some h0) made None n b m g o h u = absurd (none-some _ (o ∙ ap (but_for n) m))
+begun_by (Some h0) made (Some k) n b m g o h u =
     let f = held_is (get k n) (h k refl) in
     let bytes : bytes_of (get k n) ≡ take g.0 b = same_Some _ _ (g.1 ∙ ap (λ x. option_map (λ w. w ++ take g.0 b) (file_bytes x n)) m ∙ ap (λ x. Some (bytes_of x ++ take g.0 b)) (get_itself h0 n empty_file)) in
     let rest : insert k n empty_file ≡ insert h0 n empty_file = same_Some _ _ (o ∙ ap (but_for n) m) ∙ overwritten h0 n empty_file empty_file in
-    inr (f.0, g.0, sym (ap bytes_of f.1) ∙ bytes, ap (λ x. Some x) (put_back k n f.0 f.1 ∙ ap (λ x. insert x n f.0) rest ∙ overwritten h0 n empty_file f.0))
+    inr (f.0, g.0, sym (ap bytes_of f.1) ∙ bytes, sym (ap is_file_finished f.1) ∙ u k refl, ap (λ x. Some x) (put_back k n f.0 f.1 ∙ ap (λ x. insert x n f.0) rest ∙ overwritten h0 n empty_file f.0))
 
 -- a name that should be made
 pub made_or_not : (old new : Option Held) (n b : List ℕ) → (new ≡ old) ⊎ Sets old n (λ _. empty_file) new → IsBegun old n b new
 made_or_not old new n b (inl e) = inl e
-made_or_not old new n b (inr e) = inr (empty_file, 0, refl, e)
+made_or_not old new n b (inr e) = inr (empty_file, 0, refl, refl, e)
 
 -- bytes that were added whole are some first ones of them
 pub grown_all : (old : Option (List ℕ)) (b : List ℕ) (new : Option (List ℕ)) → Grew old b new → GrewByPrefix old b new

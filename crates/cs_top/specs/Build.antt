@@ -1,14 +1,14 @@
 -- What `build COLLECTION INDEX` does, and `import csv SOURCE INDEX` and `import jsonl SOURCE INDEX`, which differ by their source's form.
 --
 --   HasImage form h c x           x is the image of the source's collection, and the source is held and accepted
---   IsBegun old name b new        a name is as it was, or holds some first ones of the bytes b
+--   IsBegun old name b new        a name is as it was, or holds some first ones of the bytes b and isn't finished
 --   BuildStops form e h c         what shows that it ended so before the index file was made
 --   BuildWrites e h i x now       how it ended while the index file was written, and what is held then
 --   BuildTold form e h c i now    how it ended over files that tell, and what is held then
 --   BuildEnds form e c            how it may end over any files
 --   BuildRan form e c i m         a whole run
 --   CanBuild form h c             the index file can be made
-use Rattle.std.specs.Prelude.{◌≡◌, ◌⊎◌, ℕ, List, Option, Some, None, take}
+use Rattle.std.specs.Prelude.{◌≡◌, ◌⊎◌, ℕ, false, List, Option, Some, None, take}
 use Rattle.std.specs.Option.{ForSome}
 use Rattle.std.specs.FinMap as map
 use Rattle.cs_base.specs.outside.Outside.{File, Held, IsHeld, Sets, whole_file}
@@ -31,9 +31,9 @@ CanBuild form h c = IsHeld (map.get h c) × IsAcceptedAs form (held_bytes h c)
 abbrev pub HasImage : Form → Held → List ℕ → Image → Type 0
 HasImage form h c x = CanBuild form h c × IsImage (corpus (collection_in form (held_bytes h c))) TARGET (weights (collection_in form (held_bytes h c))) x
 
--- the files are as they were, or but for this name, which holds some first ones of the bytes: none of them, or all
+-- the files are as they were, or but for this name, which holds some first ones of the bytes, none of them or all, and isn't finished
 abbrev pub IsBegun : Option Held → List ℕ → List ℕ → Option Held → Type 0
-IsBegun old name b new = (new ≡ old) ⊎ ((f : File) × (k : ℕ) × (f.bytes ≡ take k b) × Sets old name (λ _. f) new)
+IsBegun old name b new = (new ≡ old) ⊎ ((f : File) × (k : ℕ) × (f.bytes ≡ take k b) × (f.finished ≡ false) × Sets old name (λ _. f) new)
 
 -- Before the index file is made: a name that is said to be absent is the source's, and a refusal is that of the source.
 -- Its size is asked before any memory is taken: want of memory hides no absent file. Files may take some to tell a size, as that of a

@@ -12,6 +12,7 @@
 --   HasSize h name n         the name is held, with n bytes
 --   Covers f n               the file is held and has at least n bytes
 --   IsHeld f                 the file is held
+--   is_file_finished f       the file is held and finished
 --   part bytes at n          n bytes from a place, fewer where the bytes end before
 --   Sets old name f new      what the name holds became f of what it held; all other names stay
 --   but_for name held        the files with one name emptied: two that are equal so differ at this name at most
@@ -73,6 +74,11 @@ Covers (Some f) n = n ≤ length f.bytes
 -- a held file, even one without bytes
 abbrev pub IsHeld : Option File → Type 0
 IsHeld f = Covers f 0
+
+-- whether a file is held and finished
+abbrev pub is_file_finished : Option File → Bool
+is_file_finished None = false
+is_file_finished (Some f) = f.finished
 
 -- n bytes from a place, fewer where the bytes end before
 abbrev pub part : List ℕ → ℕ → ℕ → List ℕ

@@ -1,23 +1,28 @@
 //! A sink over a file.
-ghost use Rattle.std.specs.Prelude.{◌≡◌, true};
+ghost use Rattle.std.specs.Prelude.{◌≡◌, false, true};
 ghost use Rattle.std.specs.Option.{ForSome, is_some};
 ghost use Rattle.std.specs.FinMap as map;
+ghost use Rattle.cs_base.specs.outside.Outside.{is_file_finished};
 
 use crate::outside::{Failed, Files, Sink};
 
-/// A held file, as a sink: what is put is added at its end. It tells where the files tell, and its faults are those of the files.
+/// A held file that isn't finished, as a sink: what is put is added at its end. It tells where the files tell, and its faults are those of
+/// the files.
 #[derive(Drop)]
 pub struct FileSink<'a, F: Files> {
     files: &'a mut F,
     name: &'a str,
     /// The name is held.
     pub ghost holds: { ForSome (F.held files.now) (λ h. is_some (map.get h name.now) ≡ true) },
+    /// It isn't finished.
+    pub ghost unfinished: { ForSome (F.held files.now) (λ h. is_file_finished (map.get h name.now) ≡ false) },
 }
 
 impl<'a, F: Files> FileSink<'a, F> {
-    /// The file of this name. Over files that tell, it is held.
+    /// The file of this name. Over files that tell, it is held, and not finished.
     pub fn new(files: &'a mut F, name: &'a str) -> FileSink<'a, F>
         requires holds { ForSome (F.held files.old) (λ h. is_some (map.get h name.now) ≡ true) }
+        requires unfinished { ForSome (F.held files.old) (λ h. is_file_finished (map.get h name.now) ≡ false) }
 
         ensures same_files { result.files.ghost_name ≡ files.entry.ghost_name }
         ensures files { result.files.now ≡ files.old }

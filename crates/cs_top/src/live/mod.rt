@@ -5,6 +5,7 @@ ghost use Rattle.cs_base.specs.outside.Outside.{file_bytes};
 ghost use Rattle.cs_file.specs.Indexes.{HasAllBlocks};
 ghost use Rattle.cs_model.specs.Outputs.{script_lines};
 ghost use Rattle.cs_model_index.specs.Sections.{file_corpus};
+ghost use Rattle.cs_model_kept.specs.declared.limits.TheConstants.{MAX_ENTRIES};
 ghost use Rattle.cs_model_live.specs.LiveStates.{LiveState, before_changes};
 ghost use Rattle.cs_top.specs.Answering.{CameCounts};
 ghost use Rattle.cs_top.specs.CommandLine.{done};
@@ -71,6 +72,7 @@ fn open_live<'a, F: Files>(
     ensures fits { IfOk result (λ l. HasAllBlocks (file_bytes (F.held files.new) index.entry.name.now) l.state.index) }
     ensures kind { IfErr result IsOfIndex }
     ensures reads { ReadsFiles (F.held files.old) (F.held files.new) (F.faults files.old) (F.faults files.new) result }
+    ensures room { IfOk result (λ l. l.answers.capacity ≡ MAX_ENTRIES) }
 {
     let index = open_held(alloc, files, index)?;
     let live = Live::new(alloc, index, MAX_ENTRIES)?;

@@ -20,11 +20,11 @@ returns-clause-next g c =
     let size : length c.deref.result.now ≡ length bytes = ap length c.deref.ensures.value in
     elim c.if-self-len.branch [
       | then-self-len w ↦
-          let left : unread_of c.hear.new.self ≡ [] = c.hear.ensures ∙ ap unread_of w.self-is ∙ ap (drop 0) w.new.ensures.items in
+          let left : unread_of c.hear.new.self ≡ [] = c.hear.ensures.unread ∙ ap unread_of w.self-is ∙ ap (drop 0) w.new.ensures.items in
           let all : length bytes ≤ given + n = omega (arith, w.if-self-len.true, c.saturating_add-self.ensures, c.len.ensures, c.deref.ensures.len, size) in
           left_none bytes copy out given count n copied below within all ∙ ap (λ l. take n (copy ++ out) ++ l) (sym left)
       | else-self-len w ↦
           let place : c.saturating_add-self.result ≡ given + n = omega (arith, c.saturating_add-self.ensures, below, c.min-count.ensures, c.in_ok-rest.ensures.lookup.0.3, c.deref.ensures.len, size, c.args.self.now.unread.small) in
-          let left : unread_of c.hear.new.self ≡ drop (given + n) bytes = c.hear.ensures ∙ ap unread_of w.self-is ∙ ap (λ k. drop k bytes) place in
+          let left : unread_of c.hear.new.self ≡ drop (given + n) bytes = c.hear.ensures.unread ∙ ap unread_of w.self-is ∙ ap (λ k. drop k bytes) place in
           left_behind bytes copy out given count n copied below within ∙ ap (λ l. take n (copy ++ out) ++ l) (sym left)
     ]
