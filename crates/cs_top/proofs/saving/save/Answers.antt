@@ -1,4 +1,4 @@
-use Rattle.std.proofs.Common.{rules, sym, subst}
+use Rattle.std.proofs.Common.{rules, refl, sym, subst}
 use Rattle.cs_base.specs.outside.Outside.{empty_file}
 use Rattle.cs_base.proofs.FileLemmas.{held_after, open_after, saved}
 use Rattle.cs_model_index.specs.Layout.{file}
