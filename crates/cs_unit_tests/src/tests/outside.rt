@@ -125,17 +125,12 @@ fn a_file_is_read_as_a_store(rt: HostRuntime) -> Result<(), Fail> {
 #[test]
 fn a_file_is_written_as_a_sink(rt: HostRuntime) -> Result<(), Fail> {
     let mut files = one_file(rt.alloc())?;
-    files.fail_writes(vec![in rt.alloc(); 2]?);
-    let Ok(Some(_)) = files.size("x") else {
-        return Err(Fail::new("not that size"));
+    files.fail_writes(vec![in rt.alloc(); 3]?);
+    let Ok(()) = files.create("x") else {
+        return Err(Fail::new("not made"));
     };
     let mut sink = FileSink::new(&mut files, "x");
     puts(&rt, &mut sink, &[(b"d", true), (b"e", false), (b"f", true)]);
-    same(
-        &rt,
-        &files.bytes("x"),
-        &Some(b"abcdf".as_slice()),
-        "written",
-    );
+    same(&rt, &files.bytes("x"), &Some(b"df".as_slice()), "written");
     Ok(())
 }
