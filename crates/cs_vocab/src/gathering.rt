@@ -13,7 +13,7 @@ use std::alloc::Global;
 const FIRST_SLOTS: usize = 1 << 12;
 
 // The most slots that a gathering has.
-const MAX_SLOTS: usize = 1 << 20;
+const MAX_SLOTS: usize = 1 << 23;
 
 // Where there are fewer than so many slots for each word kept, they become GROWTH times as many.
 const SLOTS_A_WORD: usize = 2;
