@@ -123,8 +123,9 @@ pub refusal_right : {k : Corpus} {s : Stock} {r : Request} {old new : EngineView
 refusal_right (Ok x) h good = absurd cc
 refusal_right (Err e) h good = record { reply = tt; good = good; after = tt }
 
--- what is kept after a reply doesn't speak of what is held
-pub same_after : (k : Corpus) (q : Query) (old : EngineView) (i : IndexView) (x : AnswerList) (h h' : List HeldRange) (a : Result (Reply × Note) FetchFault)
-    → IsAfterFor k q old a (engine_with i x h) → IsAfterFor k q old a (engine_with i x h')
-same_after k q old i x h h' (Ok r) after = after
-same_after k q old i x h h' (Err e) after = tt
+-- what is kept after a reply doesn't speak of what is held before it and behind it
+pub same_after : (k : Corpus) (q : Query) (old : EngineView) (h : List HeldRange) (i : IndexView) (new : AnswerList) (l l' : List HeldRange)
+    (a : Result (Reply × Note) FetchFault) → IsAfterFor k q (engine_with old.index old.answers h) a (engine_with i new l)
+    → IsAfterFor k q old a (engine_with i new l')
+same_after k q old h i new l l' (Ok r) after = after
+same_after k q old h i new l l' (Err e) after = tt

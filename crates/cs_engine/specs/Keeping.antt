@@ -8,6 +8,7 @@
 --   FitsQuery i q e           an entry is in the range of an index, as that of the query q is
 --   IsKeptEntry i e           the key of e is that of a query of the grammar, whose entry fits the index i
 --   KeepsFitting i held       each entry does
+--   FitsIndex e               each entry that an engine keeps, and each range that it holds, is in the range of its index
 --   IsPlanned i held q keys p      p is the plan for the keys of a query by what is kept, each entry of which fits the index i
 --   IsEntryOver k i q e       of the corpus k an entry is that of the query q
 --   HoldsGood k i held        of it each kept entry is that of its key's own query
@@ -23,10 +24,11 @@
 --   IsLeftBehind q old new    what is kept after a refusal: the same entries, the used one maybe in front
 --   KeepsAnswers i q old r new       the one or the other
 --   wants_memory a            an answer is a refusal for want of memory
+--   IsHeldBehind a h          the ranges that are held behind an answer are within the bound, and none where memory is wanted
 --   IsAfterFor k q old r new  what is kept after a reply, of a corpus
 --   IsAfter b q old r new     the same over the bytes of the index
 --   AnswersRight k s r old a new    the reply is that of the corpus, what is kept after it is so, and the engine is good
-use Rattle.std.specs.Prelude.{◌≡◌, ◌⊎◌, ℕ, Bool, true, false, List, ◌∷◌, length, take, Option, Some, None, IfOk, Result, Ok, Err, if◌then◌else◌}
+use Rattle.std.specs.Prelude.{◌≡◌, ◌⊎◌, ℕ, Bool, true, false, List, [], ◌∷◌, ◌≤◌, length, take, Option, Some, None, IfOk, Result, Ok, Err, if◌then◌else◌}
 use Rattle.std.specs.List.{All}
 use Rattle.cs_base.specs.declared.content.doc.Post.{Post}
 use Rattle.cs_base.specs.declared.content.key.Keys.{Keys}
@@ -46,13 +48,14 @@ use Rattle.cs_model.specs.Requests.{Request, reply_of}
 use Rattle.cs_model_index.specs.Sections.{file_corpus}
 use Rattle.cs_model_kept.specs.Entries.{EntryOf, entry_at, entry_of}
 use Rattle.cs_model_kept.specs.KeptList.{KeptOf, GoodFor, after, kept_at, kept_by, kept_fresh, plan_by, put_in_front, to_front, used_key, is_same}
-use Rattle.cs_engine.specs.HeldRanges.{AreHeldOver}
+use Rattle.cs_engine.specs.HeldRanges.{AreHeldOver, FitsRange, range_bytes}
 use Rattle.cs_rows.specs.IndexReading.{stock_of}
 use Rattle.cs_rows.specs.Steps.{EntryFits, last_is_positive}
 use Rattle.cs_rows.specs.Stocked.{Stock}
 use Rattle.cs_file.specs.declared.fault.FetchFault.{FetchFault}
 use Rattle.cs_file.specs.declared.fault.FetchFault.TheVariants as fetches
 use Rattle.cs_engine.specs.declared.held.HeldRange.{HeldRange}
+use Rattle.cs_engine.specs.declared.held.TheConstants.{MAX_HELD_BYTES}
 use Rattle.cs_engine.specs.declared.note.Note.{Note}
 
 -- an index that was opened, the kept entries with how many there may be, and ranges of words with what is held of them, the last used
@@ -82,6 +85,10 @@ pub record IsKeptEntry (i : IndexView) (e : List ℕ × EntryOf Post) : Type 0 w
 -- of no entry it holds
 abbrev pub KeepsFitting : IndexView → KeptOf (EntryOf Post) → Type 0
 KeepsFitting i held = All (IsKeptEntry i) held
+
+-- an engine that keeps and holds nothing fits any index
+abbrev pub FitsIndex : EngineView → Type 0
+FitsIndex e = KeepsFitting e.index e.answers.entries × All (FitsRange e.index) e.held
 
 -- Fresh where nothing is kept
 pub record IsPlanned (i : IndexView) (held : KeptOf (EntryOf Post)) (q : Query) (keys : Keys) (p : Plan) : Type 0 where
@@ -133,6 +140,10 @@ wants_memory (Ok x) = false
 wants_memory (Err fetches.Memory) = true
 wants_memory (Err fetches.Read) = false
 wants_memory (Err (fetches.Changed rule at)) = false
+
+-- of any other answer the bound alone is said
+abbrev pub IsHeldBehind : {T : Type 0} → Result T FetchFault → List HeldRange → Type 0
+IsHeldBehind a held = (range_bytes held ≤ MAX_HELD_BYTES) × (a ≡ Err fetches.Memory → held ≡ [])
 
 -- ---- of a corpus
 -- with its rows told by the words of the index

@@ -1,20 +1,17 @@
 //! Answering a request: finding, showing, and what is kept and held behind it.
-ghost use Rattle.std.specs.Prelude.{◌≡◌, ◌≤◌, Err, None, [], false, true, is_some, length, IfOk, MatchOption};
-ghost use Rattle.std.specs.List.{All};
+ghost use Rattle.std.specs.Prelude.{◌≡◌, ◌≤◌, None, false, true, is_some, length, IfOk, MatchOption};
 ghost use Rattle.cs_base.specs.outside.Causes.{ReadsWithin};
-ghost use Rattle.cs_file.specs.declared.fault.FetchFault.TheVariants as fetches;
 ghost use Rattle.cs_model.specs.Parameters.{HoldsLimits};
 ghost use Rattle.cs_model_kept.specs.{Due.{due}, KeptList.{plan_by, is_same}};
 ghost use Rattle.cs_query.specs.RequestView.{asked};
 ghost use Rattle.cs_rows.specs.IndexReading.{division, OnlyReads, WhereStood};
 ghost use Rattle.cs_engine.specs.Asking.{filed_titles};
-ghost use Rattle.cs_engine.specs.HeldRanges.{FitsRange, HoldsMore, range_bytes};
+ghost use Rattle.cs_engine.specs.HeldRanges.{HoldsMore};
 ghost use Rattle.cs_rows.specs.Skipping.{hit_reads};
 ghost use Rattle.cs_rows.specs.Sources.{CanRead, seen};
 ghost use Rattle.cs_rows.specs.Stocked.{corpus_in};
 ghost use Rattle.cs_engine.specs.declared.held.Holding.TheVariants as holding;
-ghost use Rattle.cs_engine.specs.declared.held.TheConstants.{MAX_HELD_BYTES};
-ghost use Rattle.cs_engine.specs.Keeping.{AnswersRight, AreGoodFor, KeepsAnswers, KeepsFitting, became, engine_with, entries_behind, note_plan, wants_memory};
+ghost use Rattle.cs_engine.specs.Keeping.{AnswersRight, AreGoodFor, FitsIndex, IsHeldBehind, KeepsAnswers, became, engine_with, entries_behind, note_plan, wants_memory};
 
 use crate::find::find_by;
 use crate::finding::{CountedWords, QueryOver};
@@ -30,8 +27,8 @@ use cs_rows::Source;
 /// The reply to a request over a source, and how it was answered. It goes on from what is kept and held; blocks are read where that doesn't
 /// serve. What is kept and held must be of this source.
 ///
-/// A failed read and a change of the file are told as such, and want of memory too; the same answers are kept then. Where memory is
-/// wanted, all that is held of ranges of words is given back.
+/// A failed read and a change of the file are told as such, and want of memory too; the same answers are kept then. All that is held of
+/// ranges of words is given back where little memory is left before the request, and where memory is wanted.
 pub fn ask_over<I: Source, S: Store>(
     over: RequestOver<'_, I>,
     store: &mut S,
@@ -40,8 +37,7 @@ pub fn ask_over<I: Source, S: Store>(
 ) -> Result<(Reply, Note), FetchFault>
     requires limits { HoldsLimits (asked over.request.now) }
     requires opened { CanRead (S.bytes store.old) (I.view over.index.now) }
-    requires kept { KeepsFitting (seen (I.view over.index.now)) answers.old.entries }
-    requires held { All (FitsRange (seen (I.view over.index.now))) held.old }
+    requires kept { FitsIndex (engine_with (seen (I.view over.index.now)) answers.old held.old) }
 
     ensures told { WhereStood (S.bytes store.old) (I.view over.entry.index.now).index
         (λ b. (let s = (I.view over.entry.index.now).stock b in AreGoodFor (corpus_in s) s
@@ -50,8 +46,7 @@ pub fn ask_over<I: Source, S: Store>(
         (engine_with (seen (I.view over.entry.index.now)) answers.new held.new))) }
     ensures few { IfOk result (λ r. length r.0.hits ≤ over.entry.request.now.hits) }
     ensures keeps { KeepsAnswers (seen (I.view over.entry.index.now)) over.entry.request.now.query answers.old result answers.new }
-    ensures kept { KeepsFitting (seen (I.view over.entry.index.now)) answers.new.entries }
-    ensures held { All (FitsRange (seen (I.view over.entry.index.now))) held.new }
+    ensures kept { FitsIndex (engine_with (seen (I.view over.entry.index.now)) answers.new held.new) }
     ensures store { OnlyReads S.bytes S.lent S.faults (I.view over.entry.index.now).index store.old store.new result }
     ensures reads { ReadsWithin
         (due (division (I.view over.entry.index.now).index) (asked over.entry.request.now) (note_plan over.entry.request.now.query answers.old)
@@ -62,10 +57,10 @@ pub fn ask_over<I: Source, S: Store>(
         (engine_with (seen (I.view over.entry.index.now)) answers.old held.old)
         → ReadsWithin (hit_reads (division (I.view over.entry.index.now).index) (corpus_in s) (asked over.entry.request.now)
         (note_plan over.entry.request.now.query answers.old) (filed_titles (I.view over.entry.index.now).index.docs (asked over.entry.request.now) result)) (S.reads store.old) (S.reads store.new))) }
-    ensures bounded { range_bytes held.new ≤ MAX_HELD_BYTES }
-    ensures given { result ≡ Err fetches.Memory → held.new ≡ [] }
+    ensures bounded { IsHeldBehind result held.new }
 {
     let alloc = over.alloc;
+    held.make_room(alloc);
     let answer = noted_reply(over, store, answers, held);
     let wanted = wants_memory(&answer);
     held.give_back(alloc, wanted);
@@ -81,8 +76,7 @@ fn noted_reply<I: Source, S: Store>(
 ) -> Result<(Reply, Note), FetchFault>
     requires limits { HoldsLimits (asked over.request.now) }
     requires opened { CanRead (S.bytes store.old) (I.view over.index.now) }
-    requires kept { KeepsFitting (seen (I.view over.index.now)) answers.old.entries }
-    requires held { All (FitsRange (seen (I.view over.index.now))) held.old }
+    requires kept { FitsIndex (engine_with (seen (I.view over.index.now)) answers.old held.old) }
 
     ensures told { WhereStood (S.bytes store.old) (I.view over.entry.index.now).index
         (λ b. (let s = (I.view over.entry.index.now).stock b in AreGoodFor (corpus_in s) s
@@ -91,8 +85,7 @@ fn noted_reply<I: Source, S: Store>(
         (engine_with (seen (I.view over.entry.index.now)) answers.new held.new))) }
     ensures few { IfOk result (λ r. length r.0.hits ≤ over.entry.request.now.hits) }
     ensures keeps { KeepsAnswers (seen (I.view over.entry.index.now)) over.entry.request.now.query answers.old result answers.new }
-    ensures kept { KeepsFitting (seen (I.view over.entry.index.now)) answers.new.entries }
-    ensures held { All (FitsRange (seen (I.view over.entry.index.now))) held.new }
+    ensures kept { FitsIndex (engine_with (seen (I.view over.entry.index.now)) answers.new held.new) }
     ensures store { OnlyReads S.bytes S.lent S.faults (I.view over.entry.index.now).index store.old store.new result }
     ensures reads { ReadsWithin
         (due (division (I.view over.entry.index.now).index) (asked over.entry.request.now) (note_plan over.entry.request.now.query answers.old)

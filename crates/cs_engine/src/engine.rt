@@ -42,15 +42,13 @@ pub struct Engine {
 }
 
 impl Model for Engine {
-    ghost use Rattle.std.specs.List.{All};
-    ghost use Rattle.cs_engine.specs.HeldRanges.{FitsRange};
-    ghost use Rattle.cs_engine.specs.Keeping.{EngineView, KeepsFitting, engine_with};
+    ghost use Rattle.cs_engine.specs.Keeping.{EngineView, FitsIndex, engine_with};
 
     ghost Value = { EngineView };
 
     ghost view = { λ e. engine_with e.index e.answers e.held };
 
-    ghost invariant = { λ e. KeepsFitting e.index e.answers.entries × All (FitsRange e.index) e.held };
+    ghost invariant = { λ e. FitsIndex (engine_with e.index e.answers e.held) };
 }
 
 impl Engine {

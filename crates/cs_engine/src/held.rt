@@ -4,14 +4,14 @@
 ghost use Rattle.std.specs.Prelude.{◌≡◌, ◌+◌, ◌<◌, ◌≤◌, ◌^◌, [], None, false, true, length, take, IfSome, if◌then◌else◌};
 ghost use Rattle.std.specs.List.{list_any};
 ghost use Rattle.cs_engine.specs.declared.held.HeldKind.TheVariants as kinds;
-ghost use Rattle.cs_engine.specs.HeldRanges.{HoldsMore, IsFirstOf, IsWithout, PassesAt, bytes_of_blocks, bytes_of_range, is_kind, is_range, range_bytes, what_bytes};
+ghost use Rattle.cs_engine.specs.HeldRanges.{HoldsMore, IsFirstOf, IsWithout, OnlyGoes, PassesAt, bytes_of_blocks, bytes_of_range, is_kind, is_range, range_bytes, what_bytes};
 
 use cs_base::Base;
 use cs_cols::Cols;
 use cs_file::ReadBlock;
 use cs_rows::listed_count;
 use cs_tables::WordCounts;
-use std::alloc::Global;
+use std::alloc::{AllocError, Global};
 use std::marker::Model;
 
 /// So many bytes of rows, hits, counts and blocks are held at most.
@@ -31,6 +31,9 @@ pub(crate) const COUNT_BYTES: u128 = 8;
 
 /// The bytes of a block by itself, without what was read of it.
 pub(crate) const BLOCK_BYTES: u128 = 1 << 7;
+
+/// So many bytes are to be free before a request; else what is held goes. Nearly all requests make do with them.
+const REQUEST_BYTES: usize = 1 << 23;
 
 /// What is held of a range of words.
 #[derive(Drop)]
@@ -123,6 +126,14 @@ impl Holder {
         }
         let many = many_within(&self.ranges);
         self.ranges.truncate(many);
+    }
+
+    /// Lets everything go where so little memory is left that a request would want more.
+    pub(crate) fn make_room(&mut self, alloc: Global)
+        ensures { OnlyGoes self.old self.new }
+    {
+        let room: Result<Vec<u8>, AllocError> = Vec::with_capacity(alloc, REQUEST_BYTES);
+        self.give_back(alloc, room.is_err());
     }
 
     /// Lets everything go where memory is wanted.

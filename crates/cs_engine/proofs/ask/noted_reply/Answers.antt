@@ -24,8 +24,8 @@ pub show-shown-requires-clause-held : goal.show-shown-requires-clause-held
 show-shown-requires-clause-held g c = c.find_by.ensures.held
 
 -- ---- nothing is found
-pub returns-in_err-found-clause-held : goal.returns-in_err-found-clause-held
-returns-in_err-found-clause-held g c = c.find_by.ensures.held
+pub returns-in_err-found-clause-kept : goal.returns-in_err-found-clause-kept
+returns-in_err-found-clause-kept g c = (c.requires.kept.0, c.find_by.ensures.held)
 
 pub returns-in_err-found-clause-told : goal.returns-in_err-found-clause-told
 returns-in_err-found-clause-told g c b is stands good =
@@ -43,12 +43,14 @@ returns-in_err-found-clause-reads g c =
     within_more c.find_by.ensures.reads (omega (arith, all, same))
 
 -- ---- nothing is shown
-pub returns-in_err-reply-clause-held : goal.returns-in_err-reply-clause-held
-returns-in_err-reply-clause-held g c =
-    let fits = c.in_ok-found.ensures.fits in
-    counted_held (FitsRange (seen (g.I.Source.view c.args.over.index.now))) c.in_ok-found.found.hits c.in_ok-found.found.range _ _ c.hold_counted.ensures
-    (counted_fits (seen (g.I.Source.view c.args.over.index.now)) c.in_ok-found.found.hits c.in_ok-found.found.range fits.base fits.range)
-    c.show-shown.ensures.held
+pub returns-in_err-reply-clause-kept : goal.returns-in_err-reply-clause-kept
+returns-in_err-reply-clause-kept g c =
+    let fits = c.in_ok-found.ensures.fits in (
+      c.requires.kept.0,
+      counted_held (FitsRange (seen (g.I.Source.view c.args.over.index.now))) c.in_ok-found.found.hits c.in_ok-found.found.range _ _ c.hold_counted.ensures
+          (counted_fits (seen (g.I.Source.view c.args.over.index.now)) c.in_ok-found.found.hits c.in_ok-found.found.range fits.base fits.range)
+          c.show-shown.ensures.held,
+    )
 
 pub returns-in_err-reply-clause-told : goal.returns-in_err-reply-clause-told
 returns-in_err-reply-clause-told g c b is stands good =
@@ -76,19 +78,16 @@ returns-in_err-reply-clause-reads g c =
     within_both c.find_by.ensures.reads c.show-shown.ensures.reads (omega (arith, all, same, told, read, less))
 
 -- ---- the reply
-pub returns-clause-held : goal.returns-clause-held
-returns-clause-held g c =
-    let fits = c.in_ok-found.ensures.fits in
-    counted_held (FitsRange (seen (g.I.Source.view c.args.over.index.now))) c.in_ok-found.found.hits c.in_ok-found.found.range _ _ c.hold_counted.ensures
-    (counted_fits (seen (g.I.Source.view c.args.over.index.now)) c.in_ok-found.found.hits c.in_ok-found.found.range fits.base fits.range)
-    c.show-shown.ensures.held
-
 pub returns-clause-kept : goal.returns-clause-kept
 returns-clause-kept g c =
-    subst (KeepsFitting (seen (g.I.Source.view c.args.over.index.now))) (sym c.put-kept.ensures.entries)
-    (behind_fits (seen (g.I.Source.view c.args.over.index.now)) c.args.over.request.now.query c.requires.limits.query c.args.answers.now
-    c.in_ok-keys.keys c.in_ok-keys.ensures.ok
-    c.look-plan.result c.look-plan.ensures c.requires.kept c.in_ok-found.found.own c.in_ok-found.ensures.fits.own)
+    let i = seen (g.I.Source.view c.args.over.index.now) in
+    let fits = c.in_ok-found.ensures.fits in (
+      subst (KeepsFitting i) (sym c.put-kept.ensures.entries)
+          (behind_fits i c.args.over.request.now.query c.requires.limits.query c.args.answers.now c.in_ok-keys.keys c.in_ok-keys.ensures.ok
+          c.look-plan.result c.look-plan.ensures c.requires.kept.0 c.in_ok-found.found.own fits.own),
+      counted_held (FitsRange i) c.in_ok-found.found.hits c.in_ok-found.found.range _ _ c.hold_counted.ensures
+          (counted_fits i c.in_ok-found.found.hits c.in_ok-found.found.range fits.base fits.range) c.show-shown.ensures.held,
+    )
 
 pub returns-clause-told : goal.returns-clause-told
 returns-clause-told g c b is stands good =

@@ -16,7 +16,7 @@ use Rattle.cs_engine.proofs.TitlesRead.{fewer_due, fewer_sharp, filed_less}
 use Rattle.cs_engine.proofs.engine.Engine.ask.Goals as goal
 
 pub invariant_of-self : goal.invariant_of-self
-invariant_of-self g c = (c.ask_over.ensures.kept, c.ask_over.ensures.held)
+invariant_of-self g c = c.ask_over.ensures.kept
 
 pub ask_over-requires-clause-opened : goal.ask_over-requires-clause-opened
 ask_over-requires-clause-opened g c = record {
@@ -77,3 +77,9 @@ returns-clause-reads g c =
     subst (λ (e : EngineView). ReadsWithin (due (division e.index) r (note_plan q e.answers) (titles_asked r c.ask_over.result))
     (g.S.Store.reads c.args.store.now) (g.S.Store.reads c.ask_over.new.store)) c.self.view_is
     (fewer_due (division i) r (note_plan q c.self.inside.answers) (filed_less i.docs r c.ask_over.result) c.ask_over.ensures.reads)
+
+pub returns-clause-bounded : goal.returns-clause-bounded
+returns-clause-bounded g c = c.ask_over.ensures.bounded.0
+
+pub returns-clause-given : goal.returns-clause-given
+returns-clause-given g c = c.ask_over.ensures.bounded.1

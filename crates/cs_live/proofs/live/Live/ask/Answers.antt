@@ -28,8 +28,8 @@ invariant_of-self-2 g c =
       live = subst (λ rs. IsLiveState c.bring_in.new.state rs c.self.inside.met) (sym none) (settled_live l kept c.bring_in.new.state settled);
       counted = kept.counted ∙ ap₂ (λ ts ps. length ts + count_by not ps) (sym settled.added) (sym settled.present);
       fresh = inl none;
-      answers = c.ask_state.ensures.kept;
-      held = c.ask_state.ensures.held;
+      answers = c.ask_state.ensures.kept.0;
+      held = c.ask_state.ensures.kept.1;
     }
 
 pub returns-clause-good : goal.returns-clause-good
@@ -67,3 +67,9 @@ returns-clause-sharp g c b told_is stands good cs behind =
     let kept : within l.state.index (now l.state.index.weights (file_corpus b) cs) l.answers = subst (λ k. within l.state.index k l.answers) corpus
     (subst (λ i. within i (corpus_in (stock_now new b)) l.answers) settled.index own) in
     subst (λ (v : LiveView). within v.state.index (now v.state.index.weights (file_corpus b) cs) v.answers) c.self.view_is kept
+
+pub returns-clause-bounded : goal.returns-clause-bounded
+returns-clause-bounded g c = c.ask_state.ensures.bounded.0
+
+pub returns-clause-given : goal.returns-clause-given
+returns-clause-given g c = c.ask_state.ensures.bounded.1
