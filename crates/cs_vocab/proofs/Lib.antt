@@ -1,3 +1,4 @@
+mod FrontLemmas
 pub mod GatheringLemmas
 pub mod SameLemmas
 pub mod WordNumberLemmas

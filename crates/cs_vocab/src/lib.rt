@@ -8,6 +8,7 @@ mod gathering;
 mod hash;
 mod numbered;
 mod same;
+mod sorting;
 mod vocab;
 
 pub use gathering::Gathering;

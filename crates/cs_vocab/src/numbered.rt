@@ -48,8 +48,8 @@ impl Numbered {
             mut indices,
             slots: _,
         } = gathering;
-        let words = listing(alloc, kept.as_slice())?;
-        let known = numbers_of(alloc, &words, kept.as_slice())?;
+        let (words, told) = listing(alloc, kept.as_slice())?;
+        let known = numbers_of(alloc, &words, kept.as_slice(), told.as_slice())?;
         look_up(known.as_slice(), &mut indices);
         Ok(Numbered {
             words,
@@ -58,24 +58,35 @@ impl Numbered {
     }
 }
 
-// The numbers of words whose listing the vocabulary is.
-fn numbers_of(alloc: Global, words: &Vocab, gathered: &[Word]) -> Result<Vec<u32>, Memory>
+// The numbers of words whose listing the vocabulary is. Where the number that is told of a word isn't right, it is sought.
+fn numbers_of(
+    alloc: Global,
+    words: &Vocab,
+    gathered: &[Word],
+    told: &[u32],
+) -> Result<Vec<u32>, Memory>
     requires { words.now ≡ members_in (slice_cmp nat_cmp) gathered.now }
 
     ensures { IfOk result (λ v. AreNumbers words.now v.items gathered.now) }
 {
     let mut numbers = Vec::with_capacity(alloc, gathered.len())?;
-    for word in gathered {
-        numbers.push(number_of(words, word))?;
+    for (i, word) in gathered.iter().enumerate() {
+        numbers.push(number_of(words, word, told.get(i)))?;
     }
     Ok(numbers)
 }
 
-fn number_of(words: &Vocab, word: &Word) -> u32
+fn number_of(words: &Vocab, word: &Word, told: Option<&u32>) -> u32
     requires { list_any (bytes_eq word.now) words.now ≡ true }
 
     ensures { IsWordAt words.now result word.now }
 {
+    if let Some(n) = told
+        && *n < words.len()
+        && words.word(*n) == word.bytes()
+    {
+        return *n;
+    }
     match words.find(word.bytes()) {
         Some(n) => n,
         None => unreachable!(),

@@ -11,6 +11,7 @@ ghost use Rattle.cs_model.specs.Corpus.{distinct_words};
 ghost use Rattle.cs_vocab.specs.Ranges.{IsVocab, IsWordAt, IsRange, IsSplitBefore};
 
 use crate::gathering::gather;
+use crate::sorting::Sorting;
 use cs_base::{MAX_ROWS, Memory, Row, Seq, Word};
 use std::alloc::Global;
 use std::marker::Model;
@@ -41,7 +42,7 @@ impl Vocab {
         ensures ok { IfOk result (λ v. v ≡ distinct_words rows.now) }
     {
         let gathered = gather(alloc, rows.as_slice())?;
-        let words = listing(alloc, gathered.words.as_slice())?;
+        let (words, _) = listing(alloc, gathered.words.as_slice())?;
         Ok(words)
     }
 
@@ -134,25 +135,43 @@ fn copied(alloc: Global, words: &[Word]) -> Result<Vec<Word>, Memory>
     Ok(all)
 }
 
-/// The vocabulary of words of which some may stand more than once.
-pub(crate) fn listing(alloc: Global, gathered: &[Word]) -> Result<Vocab, Memory>
+/// The vocabulary of words of which some may stand more than once, and a number for each of them in the order in which they came. Of the
+/// numbers, which are those of the words, contracts say nothing: who uses one looks whether it is right.
+pub(crate) fn listing(alloc: Global, gathered: &[Word]) -> Result<(Vocab, Vec<u32>), Memory>
     requires few { length gathered.now ≤ MAX_ROWS }
 
-    ensures ok { IfOk result (λ v. v ≡ members_in (slice_cmp nat_cmp) gathered.now) }
+    ensures ok { IfOk result (λ r. r.0 ≡ members_in (slice_cmp nat_cmp) gathered.now) }
 {
     let mut sorted = Vec::with_capacity(alloc, gathered.len())?;
-    for word in gathered {
-        sorted.push(word)?;
+    for (place, word) in gathered.iter().enumerate() {
+        sorted.push(Sorting::new(word, place as u32))?;
     }
     sorted.sort()?;
+    let numbers = numbers_in(alloc, sorted.as_slice())?;
     sorted.dedup();
     let mut words = Vec::with_capacity(alloc, sorted.len())?;
-    for word in &sorted {
-        words.push(word.copy(alloc)?)?;
+    for sorting in &sorted {
+        words.push(sorting.word().copy(alloc)?)?;
     }
-    Ok(Vocab {
+    let vocab = Vocab {
         words: Seq::from_vec(words),
-    })
+    };
+    Ok((vocab, numbers))
+}
+
+// The numbers of sorted words among the different ones, each at the place at which its word came.
+fn numbers_in(alloc: Global, sorted: &[Sorting<'_>]) -> Result<Vec<u32>, Memory> {
+    let mut numbers = vec![in alloc; 0; sorted.len()]?;
+    let mut number = 0u32;
+    for (i, sorting) in sorted.iter().enumerate() {
+        if i > 0 && *sorting != sorted[i - 1] {
+            number = number.wrapping_add(1);
+        }
+        if let Some(there) = numbers.get_mut(sorting.place() as usize) {
+            *there = number;
+        }
+    }
+    Ok(numbers)
 }
 
 // How many of the words stand before `p`.

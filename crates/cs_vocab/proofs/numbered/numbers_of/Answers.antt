@@ -6,16 +6,16 @@ use Rattle.cs_vocab.proofs.numbered.numbers_of.Goals as goal
 
 pub number_of-requires : goal.number_of-requires
 number_of-requires c =
-    let i = c.loop-word.word-index in
-    let w = c.word-item.result in
+    let i = c.loop-i.i in
+    let w = c.index-gathered-i.result in
     let all = c.args.gathered.now in
-    is_listed c.args.words.now all i w c.requires c.loop-word-test.true (c.word-item.is ∙ sym (get_or_default all i [] w c.loop-word-test.true))
+    is_listed c.args.words.now all i w c.requires c.loop-i-test.true (c.index-gathered-i.is ∙ sym (get_or_default all i [] w c.loop-i-test.true))
 
-pub loop-word-preserved : goal.loop-word-preserved
-loop-word-preserved c =
-    let i = c.loop-word.word-index in
-    let w = c.word-item.result in
+pub loop-i-preserved : goal.loop-i-preserved
+loop-i-preserved c =
+    let i = c.loop-i.i in
+    let w = c.index-gathered-i.result in
     let all = c.args.gathered.now in
-    let here : w ≡ get_or all i [] = c.word-item.is ∙ sym (get_or_default all i [] w c.loop-word-test.true) in
+    let here : w ≡ get_or all i [] = c.index-gathered-i.is ∙ sym (get_or_default all i [] w c.loop-i-test.true) in
     subst (λ ns. AreNumbers c.args.words.now ns (take (i + 1) all)) (sym c.in_ok-push.ensures.items)
-    (numbers_more c.args.words.now c.loop-word.numbers.items c.number_of.result all i w c.loop-word-test.true here c.loop-word.invariant c.number_of.ensures)
+    (numbers_more c.args.words.now c.loop-i.numbers.items c.number_of.result all i w c.loop-i-test.true here c.loop-i.invariant c.number_of.ensures)

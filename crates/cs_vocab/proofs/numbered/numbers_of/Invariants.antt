@@ -2,5 +2,5 @@ use Rattle.std.proofs.Common.{take}
 use Rattle.cs_vocab.specs.Ranges.{AreNumbers}
 use Rattle.cs_vocab.proofs.numbered.numbers_of.Given as goal
 
-abbrev pub invariant-loop-word : goal.invariant-loop-word
-invariant-loop-word l = AreNumbers l.words l.numbers.items (take l.word-index l.gathered)
+abbrev pub invariant-loop-i : goal.invariant-loop-i
+invariant-loop-i l = AreNumbers l.words l.numbers.items (take l.i l.gathered)

@@ -21,5 +21,5 @@ returns-clause-numbers c =
     let taken : AreNumbers g.words.items g.indices.items (gathered g) = indices_are g c.requires.is in
     let same = with_items_is g.indices c.look_up.new.indices (c.look_up.auto.indices ∙ ap length c.deref_mut.ensures.value ∙ sym g.indices.ok.0) in
     let is : c.from_vec.result ≡ map (slice_index known) g.indices.items = c.from_vec.ensures ∙ same ∙ c.look_up.ensures
-    ∙ ap (λ (r : List ℕ). map (slice_index r) c.deref_mut.result.now) c.as_slice-3.ensures.value ∙ ap (λ (p : List ℕ). map (slice_index known) p) c.deref_mut.ensures.value in
+    ∙ ap (λ (r : List ℕ). map (slice_index r) c.deref_mut.result.now) c.as_slice-4.ensures.value ∙ ap (λ (p : List ℕ). map (slice_index known) p) c.deref_mut.ensures.value in
     subst (λ (ns : List ℕ). AreNumbers ws ns (gathered g)) (sym is) (through_numbers ws g.words.items known numbers g.indices.items (gathered g) taken)

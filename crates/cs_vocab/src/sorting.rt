@@ -1,0 +1,134 @@
+//! Words as they are sorted: by their first bytes as one number, and by all their bytes where these numbers are the same.
+ghost use Rattle.std.specs.Prelude.{◌≡◌, ◌<◌, ℕ, slice_index_or};
+ghost use Rattle.std.proofs.Common.{rules};
+ghost use Rattle.std.specs.Str.{bytes_eq};
+ghost use Rattle.std.specs.Ordering.{nat_cmp, as_partial_cmp};
+ghost use Rattle.std.specs.Cmp.{partial_order_from_own_ties};
+ghost use Rattle.std.specs.Cmp.Lexicographic.{slice_cmp};
+ghost use Rattle.std.specs.Cmp.Rules.{comparing};
+ghost use Rattle.cs_vocab.specs.Fronts.{front};
+
+use cs_base::Word;
+use std::cmp::Ordering;
+use std::marker::Model;
+
+/// So many of a word's bytes make one number.
+pub(crate) const FRONT_BYTES: usize = 8;
+
+/// How many numbers have room in a byte.
+const BYTE_ROOM: u64 = 1 << 8;
+
+/// A word that is to be sorted, which contracts see as its bytes. It is ordered as the word is, mostly without a look at it.
+#[derive(Drop)]
+pub(crate) struct Sorting<'a> {
+    /// The number of its first bytes.
+    key: u64,
+    /// The word.
+    word: &'a Word,
+    /// Its place among those that came.
+    place: u32,
+}
+
+impl<'a> Model for Sorting<'a> {
+    ghost use Rattle.std.specs.Prelude.{◌≡◌, ◌<◌, List, ℕ, slice_index_or};
+    ghost use Rattle.cs_vocab.specs.Fronts.{front};
+    ghost use Rattle.cs_vocab.specs.declared.sorting.TheConstants.{FRONT_BYTES};
+
+    ghost Value = { List ℕ };
+
+    ghost view = { λ s. s.word.now };
+
+    ghost invariant = { λ s. (s.key ≡ front FRONT_BYTES s.word.now) × ((k : ℕ) → slice_index_or s.word.now k 0 < 256) };
+}
+
+impl<'a> Sorting<'a> {
+    /// A word that came at a place.
+    pub(crate) fn new(word: &'a Word, place: u32) -> Sorting<'a>
+        ensures { result ≡ word.entry.now }
+    {
+        Sorting {
+            key: front_of(word.bytes()),
+            word,
+            place,
+        }
+    }
+
+    /// The word.
+    pub(crate) fn word(&self) -> &Word
+        ensures { result.now ≡ self.now }
+    {
+        self.word
+    }
+
+    /// Its place among those that came.
+    pub(crate) fn place(&self) -> u32 {
+        self.place
+    }
+}
+
+impl PartialEq for Sorting<'_> {
+    ghost eq = { bytes_eq };
+
+    ghost laws = { Prim.search (comparing, rules) };
+
+    fn eq(&self, other: &Sorting<'_>) -> bool {
+        self.key == other.key && self.word == other.word
+    }
+}
+
+impl Eq for Sorting<'_> {
+    ghost laws = { Prim.search (comparing, rules) };
+}
+
+impl PartialOrd for Sorting<'_> {
+    ghost partial_cmp = { as_partial_cmp (slice_cmp nat_cmp) };
+
+    ghost laws = { partial_order_from_own_ties (Prim.search (comparing, rules)) (Prim.search (comparing, rules)) };
+
+    fn partial_cmp(&self, other: &Sorting<'_>) -> Option<Ordering> {
+        Some(self.cmp(other))
+    }
+}
+
+impl Ord for Sorting<'_> {
+    ghost cmp = { slice_cmp nat_cmp };
+
+    ghost total = { Prim.search (comparing, rules) };
+
+    ghost matches_partial_cmp = { Prim.search (comparing, rules) };
+
+    ghost matches_eq = { Prim.search (comparing, rules) };
+
+    fn cmp(&self, other: &Sorting<'_>) -> Ordering {
+        if self.key < other.key {
+            return Ordering::Less;
+        }
+        if other.key < self.key {
+            return Ordering::Greater;
+        }
+        self.word.cmp(other.word)
+    }
+}
+
+// The number of the first bytes of a word.
+fn front_of(word: &[u8]) -> u64
+    ensures front { result ≡ front FRONT_BYTES word.now }
+    ensures bytes { (k : ℕ) → slice_index_or word.now k 0 < 256 }
+{
+    let mut front = 0;
+    for i in 0..FRONT_BYTES {
+        front = front * BYTE_ROOM + u64::from(byte_at(word, i));
+    }
+    front
+}
+
+// The byte at a place, 0 where there is none.
+#[inline]
+fn byte_at(word: &[u8], i: usize) -> u8
+    ensures { result ≡ slice_index_or word.now i 0 }
+{
+    match word.get(i) {
+        Some(byte) => *byte,
+        None => 0,
+    }
+}
