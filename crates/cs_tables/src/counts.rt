@@ -29,18 +29,15 @@ pub(crate) struct Mark {
 }
 
 impl Mark {
-    /// One row more. A number of documents that can't grow stays as it is.
+    /// One row more, without a jump, since nothing tells beforehand whether its document is the one before.
     #[inline]
     pub(crate) fn see(&mut self, doc: u32)
         ensures { self.old.docs < 2 ^ 32 - 1 → self.new ≡ saw self.old doc }
     {
-        if self.last != doc {
-            self.last = doc;
-            self.docs = self.docs.saturating_add(1);
-        }
+        self.see_where(doc, true);
     }
 
-    /// The same where the row counts, and nothing where it doesn't, without a jump. The last document needs no look at the one before.
+    /// The same where the row counts, and nothing where it doesn't.
     #[inline]
     pub(crate) fn see_where(&mut self, doc: u32, counts: bool)
         ensures { self.old.docs < 2 ^ 32 - 1 → self.new ≡ (if counts then saw self.old doc else self.old) }
