@@ -28,8 +28,8 @@ use cs_cols::Cols;
 use cs_file::FetchFault;
 use cs_model_kept::MAX_ENTRY_SIZE;
 use cs_rows::{
-    GatheredKeys, Source, extended_entry, found_behind, gather_held, gather_keys, listed_count,
-    listed_docs, lists_none, many_chosen, ordered, pack_chosen, words_of_part,
+    GatheredKeys, Source, extended_entry, found_behind, gather_held, listed_count, listed_docs,
+    lists_none, many_chosen, ordered, pack_chosen, words_of_part,
 };
 use cs_tables::WordCounts;
 
@@ -115,7 +115,7 @@ fn find_words<I: Source, S: Store>(
     Ok(found)
 }
 
-// As `gather_keys` gives them. Where the words are many, what was read of their blocks is held, and rows are sought in what is held.
+// As `gather_keys` gives them, sought in what is held of blocks. What is read is held.
 fn gather_last<I: Source, S: Store>(
     over: QueryOver<'_, I>,
     store: &mut S,
@@ -142,12 +142,9 @@ fn gather_last<I: Source, S: Store>(
     ensures reads { ReadsWithin (hit_met (I.view over.entry.index.now) hits.now words.0 words.1) (S.reads store.old) (S.reads store.new) }
 {
     let QueryOver { alloc, index, .. } = over;
-    if !index.are_many(words) {
-        return gather_keys(alloc, index, store, words, hits, listed, room);
-    }
-    let mut blocks = taken_blocks(alloc, held, words);
+    let mut blocks = taken_blocks(alloc, held);
     let gathered = gather_held(alloc, index, store, words, hits, listed, room, &mut blocks);
-    hold_blocks(held, words, blocks);
+    hold_blocks(held, blocks);
     gathered
 }
 

@@ -42,7 +42,7 @@ pub(crate) enum Holding {
     Rows(Cols),
     /// The documents that have such a row with their scores, and these words, counted.
     Counted { hits: Base, counts: WordCounts },
-    /// What was read of the blocks that hold such a word, the first one in front.
+    /// What was read of blocks of the index, by their numbers.
     Blocks(Vec<ReadBlock>),
 }
 

@@ -21,8 +21,11 @@ use cs_base::{Base, Memory, Store};
 use cs_file::{FetchFault, ReadBlock, Sought};
 use std::alloc::Global;
 
-/// As `gather_keys` gives them, out of what was read of blocks before. `blocks` begin with the first that holds such a word; one that
-/// is sought in and isn't there yet is read, and put there.
+// So many bytes of what was read of blocks are kept at most.
+const MAX_BLOCKS_BYTES: u128 = 120 << 20;
+
+/// As `gather_keys` gives them, out of what was read of blocks before. `blocks` are those of the index by their numbers; one that is sought
+/// in and isn't there yet is read, and put there while all of them have room.
 pub fn gather_held<I: Source, S: Store>(
     alloc: Global,
     index: &I,
@@ -48,7 +51,8 @@ pub fn gather_held<I: Source, S: Store>(
 {
     let weights = index.weights();
     let (first, last) = index.blocks(words);
-    add_places(alloc, blocks, (last - first) as usize)?;
+    add_places(alloc, blocks, last as usize)?;
+    let mut left = room_left(blocks);
     let mut keys = Vec::new(alloc);
     let mut sought = Sought::new(alloc);
     for k in first..last {
@@ -63,8 +67,18 @@ pub fn gather_held<I: Source, S: Store>(
         if !may_hit(hits, index.head(k)) {
             continue;
         }
-        let block = &mut blocks[(k - first) as usize];
-        seek_block(alloc, index, store, k, words, listed, block, &mut sought)?;
+        let block = &mut blocks[k as usize];
+        seek_block(
+            alloc,
+            index,
+            store,
+            k,
+            words,
+            listed,
+            &mut left,
+            block,
+            &mut sought,
+        )?;
         pack(weights, &sought.posts, &mut keys)?;
     }
     Ok(GatheredKeys {
@@ -87,7 +101,17 @@ fn add_places(alloc: Global, blocks: &mut Vec<ReadBlock>, many: usize) -> Result
     Ok(())
 }
 
-// The rows of block `k` that are sought, out of what was read of it, or else read.
+// How many bytes of blocks have room beside these.
+fn room_left(blocks: &[ReadBlock]) -> u128 {
+    let mut left = MAX_BLOCKS_BYTES;
+    for block in blocks {
+        left = left.saturating_sub(block.size());
+    }
+    left
+}
+
+// The rows of block `k` that are sought, out of what was read of it, or else read. What is read is put there where so many bytes have room,
+// which are fewer then.
 fn seek_block<I: Source, S: Store>(
     alloc: Global,
     index: &I,
@@ -95,6 +119,7 @@ fn seek_block<I: Source, S: Store>(
     k: u32,
     words: (u32, u32),
     listed: &[bool],
+    left: &mut u128,
     block: &mut ReadBlock,
     sought: &mut Sought,
 ) -> Result<(), FetchFault>
@@ -117,6 +142,10 @@ fn seek_block<I: Source, S: Store>(
         return Ok(());
     }
     index.fetch_sought(alloc, store, k, words, listed, sought)?;
-    *block = sought.take_block(alloc);
+    let size = sought.block.size();
+    if size <= *left {
+        *left -= size;
+        *block = sought.take_block(alloc);
+    }
     Ok(())
 }

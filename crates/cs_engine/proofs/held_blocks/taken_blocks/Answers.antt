@@ -3,7 +3,7 @@ use Rattle.cs_engine.proofs.RangeLemmas.{goes_by}
 use Rattle.cs_engine.proofs.held_blocks.taken_blocks.Goals as goal
 
 pub returns-in-Some-Blocks-clause-held : goal.returns-in-Some-Blocks-clause-held
-returns-in-Some-Blocks-clause-held c = goes_by c.take.result c.args.words.0 c.args.words.1 kinds.Blocks c.take.ensures.none c.take.ensures.some
+returns-in-Some-Blocks-clause-held c = goes_by c.take.result 0 0 kinds.Blocks c.take.ensures.none c.take.ensures.some
 
 pub returns-clause-held : goal.returns-clause-held
-returns-clause-held c = goes_by c.take.result c.args.words.0 c.args.words.1 kinds.Blocks c.take.ensures.none c.take.ensures.some
+returns-clause-held c = goes_by c.take.result 0 0 kinds.Blocks c.take.ensures.none c.take.ensures.some

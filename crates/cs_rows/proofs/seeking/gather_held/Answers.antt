@@ -93,8 +93,8 @@ pub pack-requires : goal.pack-requires
 pack-requires g c =
     let v = g.I.Source.view c.args.index.now in
     let from = c.in_ok-seek_block.ensures.rows None (λ b is. absurd (none-some b is)) in
-    subst (λ (w : Weights). All (IsPacked w) c.deref.result.now) (sym c.weights-weights.ensures)
-    (subst (All (IsPacked v.index.weights)) (sym c.deref.ensures.value) from.packed)
+    subst (λ (w : Weights). All (IsPacked w) c.deref-in-loop-k.result.now) (sym c.weights-weights.ensures)
+    (subst (All (IsPacked v.index.weights)) (sym c.deref-in-loop-k.ensures.value) from.packed)
 
 pub returns-in_err-pack-clause-reads : goal.returns-in_err-pack-clause-reads
 returns-in_err-pack-clause-reads g c =
@@ -117,9 +117,9 @@ loop-k-preserved g c =
     let old = c.loop-k.keys.items in
     let posts = c.seek_block.new.sought.posts.items in
     let blocks = c.loop-k.blocks.items in
-    let at = c.loop-k.k - c.blocks-first.result.0 in
-    let added = c.in_ok-pack.ensures ∙ ap (λ (w : Weights). old ++ map (key_of w) c.deref.result.now) c.weights-weights.ensures
-    ∙ ap (λ (ps : List Post). old ++ map (key_of v.index.weights) ps) c.deref.ensures.value in
+    let at = c.loop-k.k in
+    let added = c.in_ok-pack.ensures ∙ ap (λ (w : Weights). old ++ map (key_of w) c.deref-in-loop-k.result.now) c.weights-weights.ensures
+    ∙ ap (λ (ps : List Post). old ++ map (key_of v.index.weights) ps) c.deref-in-loop-k.ensures.value in
     let below : c.loop-k.k < length v.index.heads = omega (arith, c.blocks-first.ensures.within, c.loop-k-test.true) in
     let there : at < length blocks = omega (arith, inv.places, c.loop-k-test.true, c.loop-k.auto.k) in
     let block = c.index_mut-block.result.now in
@@ -137,13 +137,13 @@ loop-k-preserved g c =
       fit = All-set (FitsBlock v.index) blocks at c.seek_block.new.block read.fit inv.fit;
       file = λ b is all.
           still_filed b blocks at block c.seek_block.new.block c.index_mut-block.ensures.value there (read.file b (inv.walk.store.bytes ∙ is)) (inv.file b is all);
-      places = subst (λ n. c.blocks-first.result.1 - c.blocks-first.result.0 ≤ n) (sym (length-set blocks at c.seek_block.new.block)) inv.places;
+      places = subst (λ n. c.blocks-first.result.1 ≤ n) (sym (length-set blocks at c.seek_block.new.block)) inv.places;
     }
 
 pub returns-in_err-seek_block-clause-file : goal.returns-in_err-seek_block-clause-file
 returns-in_err-seek_block-clause-file g c b is all =
     let inv = c.loop-k.invariant in
-    let at = c.loop-k.k - c.blocks-first.result.0 in
+    let at = c.loop-k.k in
     let there : at < length c.loop-k.blocks.items = omega (arith, inv.places, c.loop-k-test.true, c.loop-k.auto.k) in
     still_filed b c.loop-k.blocks.items at c.index_mut-block.result.now c.seek_block.new.block c.index_mut-block.ensures.value there
     (c.seek_block.ensures.file b (inv.walk.store.bytes ∙ is)) (inv.file b is all)
@@ -151,7 +151,7 @@ returns-in_err-seek_block-clause-file g c b is all =
 pub returns-in_err-pack-clause-file : goal.returns-in_err-pack-clause-file
 returns-in_err-pack-clause-file g c b is all =
     let inv = c.loop-k.invariant in
-    let at = c.loop-k.k - c.blocks-first.result.0 in
+    let at = c.loop-k.k in
     let there : at < length c.loop-k.blocks.items = omega (arith, inv.places, c.loop-k-test.true, c.loop-k.auto.k) in
     still_filed b c.loop-k.blocks.items at c.index_mut-block.result.now c.seek_block.new.block c.index_mut-block.ensures.value there
     (c.seek_block.ensures.file b (inv.walk.store.bytes ∙ is)) (inv.file b is all)
