@@ -20,8 +20,7 @@ ghost use Rattle.cs_rows.specs.Steps.{AreHitsOver, IsBaseOf};
 ghost use Rattle.cs_rows.specs.Stocked.{is_between};
 
 use crate::finding::{CountedWords, QueryFound, QueryOver, found_with};
-use crate::held::Holder;
-use crate::held_blocks::{hold_blocks, taken_blocks};
+use crate::held::{Holder, hold_blocks, taken_blocks};
 use cs_base::{Base, Store};
 use cs_cache::Entry;
 use cs_cols::Cols;

@@ -2,9 +2,13 @@
 //!
 //! A range that is used is taken out, and held anew behind its use: so nothing that is in use is let go.
 ghost use Rattle.std.specs.Prelude.{◌≡◌, ◌+◌, ◌<◌, ◌≤◌, ◌^◌, [], None, false, true, length, take, IfSome, if◌then◌else◌};
-ghost use Rattle.std.specs.List.{list_any};
+ghost use Rattle.std.specs.List.{All, list_any};
+ghost use Rattle.cs_file.specs.BlockBytes.{FitsBlock, HasFileBytes};
+ghost use Rattle.cs_file.specs.Indexes.{IndexView};
+ghost use Rattle.cs_rows.specs.Stocked.{Stock};
+ghost use Rattle.cs_engine.specs.declared.held.Holding.TheVariants as holding;
 ghost use Rattle.cs_engine.specs.declared.held.HeldKind.TheVariants as kinds;
-ghost use Rattle.cs_engine.specs.HeldRanges.{HoldsMore, IsFirstOf, IsWithout, OnlyGoes, PassesAt, bytes_of_blocks, bytes_of_range, is_kind, is_range, range_bytes, what_bytes};
+ghost use Rattle.cs_engine.specs.HeldRanges.{AreHeldOver, FitsRange, HoldsMore, IsFirstOf, IsWithout, OnlyGoes, PassesAt, bytes_of_blocks, bytes_of_range, is_kind, is_range, range_bytes, what_bytes};
 
 use cs_base::Base;
 use cs_cols::Cols;
@@ -31,6 +35,9 @@ pub(crate) const COUNT_BYTES: u128 = 8;
 
 /// The bytes of a block by itself, without what was read of it.
 pub(crate) const BLOCK_BYTES: u128 = 1 << 7;
+
+/// The words under which blocks are held: none, as they are held by their numbers, for whatever words.
+const NO_WORDS: (u32, u32) = (0, 0);
 
 /// So many bytes are to be free before a request; else what is held goes. Nearly all requests make do with them.
 const REQUEST_BYTES: usize = 1 << 23;
@@ -145,6 +152,30 @@ impl Holder {
             self.ranges = Vec::new(alloc);
         }
     }
+}
+
+/// What was read of blocks, by their numbers, taken out of what is held.
+pub(crate) fn taken_blocks(alloc: Global, held: &mut Holder) -> Vec<ReadBlock>
+    ensures fit { (i : IndexView) → All (FitsRange i) held.old → All (FitsBlock i) result.items }
+    ensures file { (s : Stock) → AreHeldOver s held.old → All (HasFileBytes s.bytes) result.items }
+    ensures held { OnlyGoes held.old held.new }
+{
+    match held.take(NO_WORDS, HeldKind::Blocks) {
+        Some(Holding::Blocks(blocks)) => blocks,
+        Some(Holding::Rows(_) | Holding::Counted { .. }) | None => Vec::new(alloc),
+    }
+}
+
+/// Holds what was read of blocks, by their numbers.
+pub(crate) fn hold_blocks(held: &mut Holder, blocks: Vec<ReadBlock>)
+    ensures { HoldsMore (record { low = 0; high = 0; what = holding.Blocks blocks }) held.old held.new }
+{
+    let (low, high) = NO_WORDS;
+    held.hold(HeldRange {
+        low,
+        high,
+        what: Holding::Blocks(blocks),
+    });
 }
 
 // How many of the first ranges have room together.

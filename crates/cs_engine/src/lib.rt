@@ -16,7 +16,6 @@ mod find_parts;
 mod find_range;
 mod finding;
 mod held;
-mod held_blocks;
 pub mod laws;
 mod note;
 mod replies;
