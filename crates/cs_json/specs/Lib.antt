@@ -1,2 +1,2 @@
 pub mod FaultTexts
-pub mod ReplyHits
+pub mod ReplyTokens

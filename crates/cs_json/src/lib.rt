@@ -1,9 +1,10 @@
 //! Replies and faults as compact JSON.
 //!
-//! The texts are those of `Replies` and `Faults` in `cs_model`, and of `ExcerptReplies` in `cs_model_excerpts`, byte for byte. They are written through the
-//! value of `serde_json`, whose objects hold their keys in byte order.
+//! The texts are those of `Replies` and `Faults` in `cs_model`, and of `ExcerptReplies` in `cs_model_excerpts`, byte for byte. Replies are
+//! written token by token by the writer of `json`, with no value of the whole in memory, and faults through the value of `serde_json`.
 #![tactic(auto)]
 
+mod facets;
 mod fault;
 mod reply;
 

@@ -1,24 +1,30 @@
 //! The text of a reply.
-ghost use Rattle.std.specs.Prelude.{◌≡◌, IfOk, length, map};
+ghost use Rattle.std.specs.Prelude.{◌≡◌, ◌++◌, ◌∷◌, [], IfOk, OnOk, decimal, length, map};
+ghost use Rattle.json.specs.Token.{key, number, string};
 ghost use Rattle.serde_json.specs.Data.{Data, array, object};
-ghost use Rattle.serde_json.specs.View.{items_of, view};
-ghost use Rattle.cs_model.specs.Replies.{shown_data, hit_data, facet_members, reply_text};
+ghost use Rattle.serde_json.specs.View.{items_of};
+ghost use Rattle.cs_model.specs.Replies.{shown_data, hit_data, facet_members, reply_text, total_data};
 ghost use Rattle.cs_model_excerpts.specs.ExcerptReplies.{excerpted_data, excerpted_hits, excerpted_text};
-ghost use Rattle.cs_json.specs.ReplyHits.{reply_with};
+ghost use Rattle.cs_json.specs.ReplyTokens.{data_tokens, before_hits, after_hits};
 
+use crate::facets::by_name;
 use cs_base::{Memory, Seq, Text};
 use cs_query::{FacetShown, HitShown, Reply, Shown};
-use serde_json::{Map, Value, json};
+use json::Writer;
 use std::alloc::{AllocError, Global};
+
+// The bytes that a text has room for at first; it grows where it is longer.
+const TEXT_ROOM: usize = 1 << 11;
 
 /// The reply as compact JSON, keys in byte order.
 pub fn reply_bytes(alloc: Global, r: &Reply) -> Result<Vec<u8>, Memory>
     ensures ok { IfOk result (λ v. v.items ≡ reply_text r.now) }
 {
-    let hits = list_value(alloc, r.hits.as_slice())?;
-    let value = reply_value(alloc, r, hits)?;
-    let bytes = value.to_vec(alloc)?;
-    Ok(bytes)
+    let mut out = Writer::new(Vec::with_capacity(alloc, TEXT_ROOM)?);
+    put_before_hits(alloc, &mut out, r)?;
+    put_list(&mut out, r.hits.as_slice())?;
+    put_after_hits(&mut out, r)?;
+    Ok(out.into_inner())
 }
 
 /// The reply as compact JSON, keys in byte order, each hit with the excerpt at its place.
@@ -27,88 +33,137 @@ pub fn excerpt_bytes(alloc: Global, r: &Reply, e: &Seq<Text>) -> Result<Vec<u8>,
 
     ensures ok { IfOk result (λ v. v.items ≡ excerpted_text r.now e.now) }
 {
-    let hits = excerpted_hits(alloc, r.hits.as_slice(), e.as_slice())?;
-    let value = reply_value(alloc, r, hits)?;
-    let bytes = value.to_vec(alloc)?;
-    Ok(bytes)
+    let mut out = Writer::new(Vec::with_capacity(alloc, TEXT_ROOM)?);
+    put_before_hits(alloc, &mut out, r)?;
+    put_excerpted(&mut out, r.hits.as_slice(), e.as_slice())?;
+    put_after_hits(&mut out, r)?;
+    Ok(out.into_inner())
 }
 
-// The reply with its hits as they are shown.
-fn reply_value(alloc: Global, reply: &Reply, hits: Value) -> Result<Value, AllocError>
-    ensures { IfOk result (λ v. view v ≡ reply_with reply.now (view hits)) }
+// The completions and the facets, up to the key of the hits.
+fn put_before_hits(alloc: Global, out: &mut Writer, reply: &Reply) -> Result<(), AllocError>
+    ensures ok { OnOk result (out.new.tokens ≡ out.old.tokens ++ before_hits reply.now) }
+    ensures before { out.new.before ≡ out.old.before }
 {
-    let completions = list_value(alloc, reply.completions.as_slice())?;
-    let facets = facets_value(alloc, reply.facets.as_slice())?;
-    json!(in alloc; {
-        "completions": completions,
-        "facets": facets,
-        "hits": hits,
-        "total": {"completions": (reply.total_completions), "hits": (reply.total_hits)}
-    })
+    out.begin_object()?;
+    out.key("completions")?;
+    put_list(out, reply.completions.as_slice())?;
+    out.key("facets")?;
+    put_facets(alloc, out, reply.facets.as_slice())?;
+    out.key("hits")
+}
+
+// What follows the hits: the totals, and the end of the object.
+fn put_after_hits(out: &mut Writer, reply: &Reply) -> Result<(), AllocError>
+    ensures ok { OnOk result (out.new.tokens ≡ out.old.tokens ++ after_hits reply.now) }
+    ensures before { out.new.before ≡ out.old.before }
+{
+    out.key("total")?;
+    put_totals(out, reply.total_completions, reply.total_hits)?;
+    out.end_object()
+}
+
+fn put_totals(out: &mut Writer, completions: u32, hits: u32) -> Result<(), AllocError>
+    ensures ok { OnOk result (out.new.tokens ≡ out.old.tokens ++ data_tokens (total_data completions hits)) }
+    ensures before { out.new.before ≡ out.old.before }
+{
+    out.begin_object()?;
+    put_number(out, "completions", completions)?;
+    put_number(out, "hits", hits)?;
+    out.end_object()
 }
 
 // What a reply lists.
 trait Listed {
     ghost json: { Self → Data };
 
-    fn value(&self, alloc: Global) -> Result<Value, AllocError>
-        ensures { IfOk result (λ v. view v ≡ json self.now) };
+    fn put(&self, out: &mut Writer) -> Result<(), AllocError>
+        ensures ok { OnOk result (out.new.tokens ≡ out.old.tokens ++ data_tokens (json self.now)) }
+        ensures before { out.new.before ≡ out.old.before };
 }
 
 impl Listed for Shown {
     ghost json = { shown_data };
 
-    fn value(&self, alloc: Global) -> Result<Value, AllocError> {
-        json!(in alloc; {"docs": (self.docs), "word": (self.word.as_str())})
+    fn put(&self, out: &mut Writer) -> Result<(), AllocError> {
+        out.begin_object()?;
+        put_number(out, "docs", self.docs)?;
+        put_text(out, "word", &self.word)?;
+        out.end_object()
     }
 }
 
 impl Listed for HitShown {
     ghost json = { hit_data };
 
-    fn value(&self, alloc: Global) -> Result<Value, AllocError> {
-        json!(in alloc; {"doc": (self.doc), "score": (self.score), "title": (self.title.as_str())})
+    fn put(&self, out: &mut Writer) -> Result<(), AllocError> {
+        out.begin_object()?;
+        put_number(out, "doc", self.doc)?;
+        put_number(out, "score", self.score)?;
+        put_text(out, "title", &self.title)?;
+        out.end_object()
     }
 }
 
-fn list_value<T: Listed>(alloc: Global, items: &[T]) -> Result<Value, AllocError>
-    ensures { IfOk result (λ v. view v ≡ array (items_of (map T.json items.now))) }
+fn put_list<T: Listed>(out: &mut Writer, items: &[T]) -> Result<(), AllocError>
+    ensures ok { OnOk result (out.new.tokens ≡ out.old.tokens ++ data_tokens (array (items_of (map T.json items.now)))) }
+    ensures before { out.new.before ≡ out.old.before }
 {
-    let mut list = Vec::with_capacity(alloc, items.len())?;
+    out.begin_array()?;
     for item in items {
-        list.push(item.value(alloc)?)?;
+        item.put(out)?;
     }
-    Ok(Value::Array(list))
+    out.end_array()
 }
 
-fn facets_value(alloc: Global, facets: &[FacetShown]) -> Result<Value, AllocError>
-    ensures { IfOk result (λ v. view v ≡ object (facet_members facets.now)) }
+fn put_facets(alloc: Global, out: &mut Writer, facets: &[FacetShown]) -> Result<(), AllocError>
+    ensures ok { OnOk result (out.new.tokens ≡ out.old.tokens ++ data_tokens (object (facet_members facets.now))) }
+    ensures before { out.new.before ≡ out.old.before }
 {
-    let mut map = Map::new(alloc);
-    for facet in facets {
-        let table = list_value(alloc, facet.table.as_slice())?;
-        serde_json::put(&mut map, alloc, facet.name.as_str(), table)?;
+    let ordered = by_name(alloc, facets)?;
+    out.begin_object()?;
+    for facet in &ordered {
+        out.key(facet.name.as_str())?;
+        put_list(out, facet.table.as_slice())?;
     }
-    Ok(Value::Object(map))
+    out.end_object()
 }
 
-fn excerpted_hits(alloc: Global, hits: &[HitShown], excerpts: &[Text]) -> Result<Value, AllocError>
-    ensures { IfOk result (λ v. view v ≡ excerpted_hits hits.now excerpts.now) }
+fn put_excerpted(out: &mut Writer, hits: &[HitShown], excerpts: &[Text]) -> Result<(), AllocError>
+    ensures ok { OnOk result (out.new.tokens ≡ out.old.tokens ++ data_tokens (excerpted_hits hits.now excerpts.now)) }
+    ensures before { out.new.before ≡ out.old.before }
 {
-    let mut list = Vec::with_capacity(alloc, hits.len())?;
+    out.begin_array()?;
     for (hit, excerpt) in hits.iter().zip(excerpts) {
-        list.push(excerpted_value(alloc, hit, excerpt)?)?;
+        put_with_excerpt(out, hit, excerpt)?;
     }
-    Ok(Value::Array(list))
+    out.end_array()
 }
 
-fn excerpted_value(alloc: Global, hit: &HitShown, excerpt: &Text) -> Result<Value, AllocError>
-    ensures { IfOk result (λ v. view v ≡ excerpted_data (hit.now, excerpt.now)) }
+fn put_with_excerpt(out: &mut Writer, hit: &HitShown, excerpt: &Text) -> Result<(), AllocError>
+    ensures ok { OnOk result (out.new.tokens ≡ out.old.tokens ++ data_tokens (excerpted_data (hit.now, excerpt.now))) }
+    ensures before { out.new.before ≡ out.old.before }
 {
-    json!(in alloc; {
-        "doc": (hit.doc),
-        "excerpt": (excerpt.as_str()),
-        "score": (hit.score),
-        "title": (hit.title.as_str())
-    })
+    out.begin_object()?;
+    put_number(out, "doc", hit.doc)?;
+    put_text(out, "excerpt", excerpt)?;
+    put_number(out, "score", hit.score)?;
+    put_text(out, "title", &hit.title)?;
+    out.end_object()
+}
+
+fn put_number(out: &mut Writer, name: &str, n: u32) -> Result<(), AllocError>
+    ensures ok { OnOk result (out.new.tokens ≡ out.old.tokens ++ key name.now ∷ number (decimal n) ∷ []) }
+    ensures before { out.new.before ≡ out.old.before }
+{
+    out.key(name)?;
+    out.u64(u64::from(n))
+}
+
+fn put_text(out: &mut Writer, name: &str, text: &Text) -> Result<(), AllocError>
+    ensures ok { OnOk result (out.new.tokens ≡ out.old.tokens ++ key name.now ∷ string text.now ∷ []) }
+    ensures before { out.new.before ≡ out.old.before }
+{
+    out.key(name)?;
+    out.string(text.as_str())
 }
