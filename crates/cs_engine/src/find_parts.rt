@@ -141,8 +141,19 @@ fn gather_last<I: Source, S: Store>(
     ensures reads { ReadsWithin (hit_met (I.view over.entry.index.now) hits.now words.0 words.1) (S.reads store.old) (S.reads store.new) }
 {
     let QueryOver { alloc, index, .. } = over;
+    let most = held.most_of_blocks();
     let mut blocks = taken_blocks(alloc, held);
-    let gathered = gather_held(alloc, index, store, words, hits, listed, room, &mut blocks);
+    let gathered = gather_held(
+        alloc,
+        index,
+        store,
+        words,
+        hits,
+        listed,
+        room,
+        most,
+        &mut blocks,
+    );
     hold_blocks(held, blocks);
     gathered
 }

@@ -33,6 +33,9 @@ pub(crate) const HIT_BYTES: u128 = 8;
 /// The bytes of a counted word: how many documents have it, and the last of them.
 pub(crate) const COUNT_BYTES: u128 = 8;
 
+/// So many bytes of what was read of blocks are held at most.
+const MAX_BLOCKS_BYTES: u128 = 120 << 20;
+
 /// The bytes of a block by itself, without what was read of it.
 pub(crate) const BLOCK_BYTES: u128 = 1 << 7;
 
@@ -76,6 +79,8 @@ pub(crate) struct HeldRange {
 #[derive(Drop)]
 pub struct Holder {
     ranges: Vec<HeldRange>,
+    // Whether little memory was left before the request.
+    is_short: bool,
 }
 
 impl Model for Holder {
@@ -99,6 +104,7 @@ impl Holder {
     {
         Holder {
             ranges: Vec::new(alloc),
+            is_short: false,
         }
     }
 
@@ -140,7 +146,14 @@ impl Holder {
         ensures { OnlyGoes self.old self.new }
     {
         let room: Result<Vec<u8>, AllocError> = Vec::with_capacity(alloc, REQUEST_BYTES);
-        self.give_back(alloc, room.is_err());
+        let is_short = room.is_err();
+        self.give_back(alloc, is_short);
+        self.is_short = is_short;
+    }
+
+    /// How many bytes of blocks may be held: none where little memory was left before the request.
+    pub(crate) fn most_of_blocks(&self) -> u128 {
+        if self.is_short { 0 } else { MAX_BLOCKS_BYTES }
     }
 
     /// Lets everything go where memory is wanted.

@@ -21,11 +21,8 @@ use cs_base::{Base, Memory, Store};
 use cs_file::{FetchFault, ReadBlock, Sought};
 use std::alloc::Global;
 
-// So many bytes of what was read of blocks are kept at most.
-const MAX_BLOCKS_BYTES: u128 = 120 << 20;
-
 /// As `gather_keys` gives them, out of what was read of blocks before. `blocks` are those of the index by their numbers; one that is sought
-/// in and isn't there yet is read, and put there while all of them have room.
+/// in and isn't there yet is read, and put there while all of them have at most `most` bytes.
 pub fn gather_held<I: Source, S: Store>(
     alloc: Global,
     index: &I,
@@ -34,6 +31,7 @@ pub fn gather_held<I: Source, S: Store>(
     hits: &Base,
     listed: &[bool],
     room: usize,
+    most: u128,
     blocks: &mut Vec<ReadBlock>,
 ) -> Result<GatheredKeys, FetchFault>
     requires words { IsWordRange (seen (I.view index.now)) words.0 words.1 }
@@ -52,7 +50,7 @@ pub fn gather_held<I: Source, S: Store>(
     let weights = index.weights();
     let (first, last) = index.blocks(words);
     add_places(alloc, blocks, last as usize)?;
-    let mut left = room_left(blocks);
+    let mut left = room_left(most, blocks);
     let mut keys = Vec::new(alloc);
     let mut sought = Sought::new(alloc);
     for k in first..last {
@@ -101,9 +99,9 @@ fn add_places(alloc: Global, blocks: &mut Vec<ReadBlock>, many: usize) -> Result
     Ok(())
 }
 
-// How many bytes of blocks have room beside these.
-fn room_left(blocks: &[ReadBlock]) -> u128 {
-    let mut left = MAX_BLOCKS_BYTES;
+// How many of so many bytes are left beside these blocks.
+fn room_left(most: u128, blocks: &[ReadBlock]) -> u128 {
+    let mut left = most;
     for block in blocks {
         left = left.saturating_sub(block.size());
     }

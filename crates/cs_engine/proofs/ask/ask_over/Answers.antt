@@ -1,7 +1,5 @@
-use Rattle.std.proofs.Common.{◌≡◌, ◌∙◌, [], ap, if◌then◌else◌}
-use Rattle.std.specs.Prelude.{Err}
+use Rattle.std.proofs.Common.{◌∙◌, [], ap, if◌then◌else◌}
 use Rattle.cs_query.specs.RequestView.{asked}
-use Rattle.cs_file.specs.declared.fault.FetchFault.TheVariants as fetches
 use Rattle.cs_engine.specs.HeldRanges.{FitsRange, IsHeldOver}
 use Rattle.cs_engine.specs.Keeping.{AreGoodFor, engine_with, wants_memory}
 use Rattle.cs_rows.specs.Sources.{seen}
