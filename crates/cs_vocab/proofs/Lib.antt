@@ -1,4 +1,4 @@
-mod FrontLemmas
+mod LeadLemmas
 pub mod GatheringLemmas
 pub mod SameLemmas
 pub mod WordNumberLemmas

@@ -6,14 +6,14 @@ ghost use Rattle.std.specs.Ordering.{nat_cmp, as_partial_cmp};
 ghost use Rattle.std.specs.Cmp.{partial_order_from_own_ties};
 ghost use Rattle.std.specs.Cmp.Lexicographic.{slice_cmp};
 ghost use Rattle.std.specs.Cmp.Rules.{comparing};
-ghost use Rattle.cs_vocab.specs.Fronts.{front};
+ghost use Rattle.cs_vocab.specs.Leads.{lead};
 
 use cs_base::Word;
 use std::cmp::Ordering;
 use std::marker::Model;
 
 /// So many of a word's bytes make one number.
-pub(crate) const FRONT_BYTES: usize = 8;
+pub(crate) const LEAD_BYTES: usize = 8;
 
 /// How many numbers have room in a byte.
 const BYTE_ROOM: u64 = 1 << 8;
@@ -31,14 +31,14 @@ pub(crate) struct Sorting<'a> {
 
 impl<'a> Model for Sorting<'a> {
     ghost use Rattle.std.specs.Prelude.{◌≡◌, ◌<◌, List, ℕ, slice_index_or};
-    ghost use Rattle.cs_vocab.specs.Fronts.{front};
-    ghost use Rattle.cs_vocab.specs.declared.sorting.TheConstants.{FRONT_BYTES};
+    ghost use Rattle.cs_vocab.specs.Leads.{lead};
+    ghost use Rattle.cs_vocab.specs.declared.sorting.TheConstants.{LEAD_BYTES};
 
     ghost Value = { List ℕ };
 
     ghost view = { λ s. s.word.now };
 
-    ghost invariant = { λ s. (s.key ≡ front FRONT_BYTES s.word.now) × ((k : ℕ) → slice_index_or s.word.now k 0 < 256) };
+    ghost invariant = { λ s. (s.key ≡ lead LEAD_BYTES s.word.now) × ((k : ℕ) → slice_index_or s.word.now k 0 < 256) };
 }
 
 impl<'a> Sorting<'a> {
@@ -47,7 +47,7 @@ impl<'a> Sorting<'a> {
         ensures { result ≡ word.entry.now }
     {
         Sorting {
-            key: front_of(word.bytes()),
+            key: lead_of(word.bytes()),
             word,
             place,
         }
@@ -111,15 +111,15 @@ impl Ord for Sorting<'_> {
 }
 
 // The number of the first bytes of a word.
-fn front_of(word: &[u8]) -> u64
-    ensures front { result ≡ front FRONT_BYTES word.now }
+fn lead_of(word: &[u8]) -> u64
+    ensures lead { result ≡ lead LEAD_BYTES word.now }
     ensures bytes { (k : ℕ) → slice_index_or word.now k 0 < 256 }
 {
-    let mut front = 0;
-    for i in 0..FRONT_BYTES {
-        front = front * BYTE_ROOM + u64::from(byte_at(word, i));
+    let mut lead = 0;
+    for i in 0..LEAD_BYTES {
+        lead = lead * BYTE_ROOM + u64::from(byte_at(word, i));
     }
-    front
+    lead
 }
 
 // The byte at a place, 0 where there is none.

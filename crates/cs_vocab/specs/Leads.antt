@@ -2,10 +2,10 @@
 --
 -- Source: this engine's own.
 --
---   front n w       the number of the first n bytes of w, of which the first one counts most
+--   lead n w       the number of the first n bytes of w, of which the first one counts most
 use Rattle.std.specs.Prelude.{ℕ, zero, suc, ◌+◌, ◌*◌, List, slice_index_or}
 
 -- a byte that the word hasn't is 0 in it
-abbrev pub front : ℕ → List ℕ → ℕ
-front zero w = 0
-front (suc n) w = front n w * 256 + slice_index_or w n 0
+abbrev pub lead : ℕ → List ℕ → ℕ
+lead zero w = 0
+lead (suc n) w = lead n w * 256 + slice_index_or w n 0

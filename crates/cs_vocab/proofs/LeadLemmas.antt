@@ -12,7 +12,7 @@ use Rattle.std.specs.Cmp.{nat_cmp_is}
 use Rattle.std.specs.Cmp.Lexicographic.{slice_cmp}
 use Rattle.std.proofs.lemmas.Bool.{cases_order}
 use Rattle.std.proofs.lemmas.Cmp.{nat_list_cmp_total}
-use Rattle.cs_vocab.specs.Fronts.{front}
+use Rattle.cs_vocab.specs.Leads.{lead}
 
 abbrev byte : List ℕ → ℕ → ℕ
 byte w n = slice_index_or w n 0
@@ -26,7 +26,7 @@ abbrev room : ℕ → ℕ
 room zero = 1
 room (suc n) = room n * 256
 
-small : (n : ℕ) (w : List ℕ) → AreBytes w → front n w < room n
+small : (n : ℕ) (w : List ℕ) → AreBytes w → lead n w < room n
 small zero w h = omega arith
 small (suc n) w h = (let a = small n w h in let b = h n in omega (arith, a, b))
 
@@ -34,7 +34,7 @@ rises : (n k : ℕ) → room n ≤ room (k + n)
 rises n zero = (let e : zero + n ≡ n = omega arith in subst (λ m. room n ≤ room m) (sym e) (omega arith))
 rises n (suc k) = (let a = rises n k in let e : suc k + n ≡ suc (k + n) = omega arith in subst (λ m. room n ≤ room m) (sym e) (omega (arith, a)))
 
-pub fits : (n : ℕ) (w : List ℕ) → AreBytes w → n < 8 → front n w * 256 + 255 < 2 ^ 64
+pub fits : (n : ℕ) (w : List ℕ) → AreBytes w → n < 8 → lead n w * 256 + 255 < 2 ^ 64
 fits n w h l =
     let a = small n w h in
     let b : room n ≤ room 7 = subst (λ m. room n ≤ room m) (let m : (7 - n) + n ≡ 7 = omega (arith, l) in m) (rises n (7 - n)) in
@@ -58,13 +58,13 @@ less_at (suc n) (x ∷ xs) (y ∷ ys) same l =
     ∙ less_at n xs ys (λ k lt. same (suc k) (omega (arith, lt))) l
 
 -- ---- numbers
-parts_same : (n : ℕ) (a b : List ℕ) → AreBytes a → AreBytes b → front (suc n) a ≡ front (suc n) b → (front n a ≡ front n b) × (byte a n ≡ byte b n)
+parts_same : (n : ℕ) (a b : List ℕ) → AreBytes a → AreBytes b → lead (suc n) a ≡ lead (suc n) b → (lead n a ≡ lead n b) × (byte a n ≡ byte b n)
 parts_same n a b ha hb e =
     let p = ha n in
     let q = hb n in
     (omega (arith, p, q, e), omega (arith, p, q, e))
 
-same_bytes : (n : ℕ) (a b : List ℕ) → AreBytes a → AreBytes b → front n a ≡ front n b → (k : ℕ) → k < n → byte a k ≡ byte b k
+same_bytes : (n : ℕ) (a b : List ℕ) → AreBytes a → AreBytes b → lead n a ≡ lead n b → (k : ℕ) → k < n → byte a k ≡ byte b k
 same_bytes zero a b ha hb e k l = absurd (omega (arith, l))
 same_bytes (suc n) a b ha hb e k l =
     let both = parts_same n a b ha hb e in
@@ -75,15 +75,15 @@ same_bytes (suc n) a b ha hb e k l =
     by last before (inr (inl lt)) = before k lt
     by last before (inr (inr gt)) = absurd (omega (arith, l, gt))
 
-pub less_by : (n : ℕ) (a b : List ℕ) → AreBytes a → AreBytes b → front n a < front n b → slice_cmp nat_cmp a b ≡ Less
+pub less_by : (n : ℕ) (a b : List ℕ) → AreBytes a → AreBytes b → lead n a < lead n b → slice_cmp nat_cmp a b ≡ Less
 less_by zero a b ha hb l = absurd (omega (arith, l))
-less_by (suc n) a b ha hb l = by (less_by n a b ha hb) (cases_order (front n a) (front n b))
+less_by (suc n) a b ha hb l = by (less_by n a b ha hb) (cases_order (lead n a) (lead n b))
   where
-    by : (front n a < front n b → slice_cmp nat_cmp a b ≡ Less)
-        → (front n a ≡ front n b) ⊎ ((front n a < front n b) ⊎ (front n b < front n a)) → slice_cmp nat_cmp a b ≡ Less
+    by : (lead n a < lead n b → slice_cmp nat_cmp a b ≡ Less)
+        → (lead n a ≡ lead n b) ⊎ ((lead n a < lead n b) ⊎ (lead n b < lead n a)) → slice_cmp nat_cmp a b ≡ Less
     by before (inl is) = less_at n a b (same_bytes n a b ha hb is) (omega (arith, is, l))
     by before (inr (inl lt)) = before lt
     by before (inr (inr gt)) = (let p = ha n in let q = hb n in absurd (omega (arith, l, gt, p, q)))
 
-pub greater_by : (n : ℕ) (a b : List ℕ) → AreBytes a → AreBytes b → front n b < front n a → slice_cmp nat_cmp a b ≡ Greater
+pub greater_by : (n : ℕ) (a b : List ℕ) → AreBytes a → AreBytes b → lead n b < lead n a → slice_cmp nat_cmp a b ≡ Greater
 greater_by n a b ha hb l = nat_list_cmp_total.antisymm a b ∙ ap ordering_reverse (less_by n b a hb ha l)
