@@ -8,8 +8,8 @@ ghost use Rattle.cs_rows.specs.Sources.{CanRead, met_in, seen};
 ghost use Rattle.cs_rows.specs.Stocked.{is_between};
 
 use crate::chosen::pack_chosen;
-use crate::gathering::gather_keys;
 use crate::packing::ordered;
+use crate::seeking::gather_keys;
 use crate::source::Source;
 use cs_base::{Base, Store};
 use cs_cols::Cols;

@@ -21,7 +21,42 @@ use cs_base::{Base, Memory, Store};
 use cs_file::{FetchFault, ReadBlock, Sought};
 use std::alloc::Global;
 
-/// As `gather_keys` gives them, out of what was read of blocks before. `blocks` are those of the index by their numbers; one that is sought
+/// Of the rows in listed documents whose word's number is `words.0` or more and below `words.1`, those of the first blocks, until there
+/// are more than `room`. All listed documents are those of `hits`. Each block that holds such a word and that a hit reaches is read at most
+/// once, and no other.
+pub fn gather_keys<I: Source, S: Store>(
+    alloc: Global,
+    index: &I,
+    store: &mut S,
+    words: (u32, u32),
+    hits: &Base,
+    listed: &[bool],
+    room: usize,
+) -> Result<GatheredKeys, FetchFault>
+    requires words { IsWordRange (seen (I.view index.now)) words.0 words.1 }
+    requires sieve { IsSieve (S.bytes store.old) (I.view index.now) hits.now listed.now }
+
+    ensures gathered { IfOk result (λ g. HasGathered (I.view index.now) (S.bytes store.old) words.0 words.1 listed.now g) }
+    ensures whole { IfOk result (λ g. g.next < g.last → (room < length g.keys.items) × (length g.keys.items < 2 ^ 64)) }
+    ensures store { OnlyReads S.bytes S.lent S.faults (I.view index.now).index store.old store.new result }
+    ensures read { IfOk result (λ g. ReadsWithin (hit_blocks hits.now (I.view index.now).index.heads g.first g.next) (S.reads store.old) (S.reads store.new)) }
+    ensures reads { ReadsWithin (hit_met (I.view index.now) hits.now words.0 words.1) (S.reads store.old) (S.reads store.new) }
+{
+    let mut unheld = Vec::new(alloc);
+    gather_held(
+        alloc,
+        index,
+        store,
+        words,
+        hits,
+        listed,
+        room,
+        0,
+        &mut unheld,
+    )
+}
+
+/// The same out of what was read of blocks before. `blocks` are those of the index by their numbers; one that is sought
 /// in and isn't there yet is read, and put there while all of them have at most `most` bytes.
 pub fn gather_held<I: Source, S: Store>(
     alloc: Global,
@@ -49,7 +84,8 @@ pub fn gather_held<I: Source, S: Store>(
 {
     let weights = index.weights();
     let (first, last) = index.blocks(words);
-    add_places(alloc, blocks, last as usize)?;
+    let many = if most > 0 { last as usize } else { 0 };
+    add_places(alloc, blocks, many)?;
     let mut left = room_left(most, blocks);
     let mut keys = Vec::new(alloc);
     let mut sought = Sought::new(alloc);
@@ -65,8 +101,7 @@ pub fn gather_held<I: Source, S: Store>(
         if !may_hit(hits, index.head(k)) {
             continue;
         }
-        let block = &mut blocks[k as usize];
-        seek_block(
+        seek_in(
             alloc,
             index,
             store,
@@ -74,7 +109,7 @@ pub fn gather_held<I: Source, S: Store>(
             words,
             listed,
             &mut left,
-            block,
+            blocks,
             &mut sought,
         )?;
         pack(weights, &sought.posts, &mut keys)?;
@@ -106,6 +141,39 @@ fn room_left(most: u128, blocks: &[ReadBlock]) -> u128 {
         left = left.saturating_sub(block.size());
     }
     left
+}
+
+// The rows of block `k` that are sought, out of what was read of the block of that number, or else read. Where it has no place nothing is put.
+fn seek_in<I: Source, S: Store>(
+    alloc: Global,
+    index: &I,
+    store: &mut S,
+    k: u32,
+    words: (u32, u32),
+    listed: &[bool],
+    left: &mut u128,
+    blocks: &mut Vec<ReadBlock>,
+    sought: &mut Sought,
+) -> Result<(), FetchFault>
+    requires in_range { k < length (I.view index.now).index.heads }
+    requires words { IsWordRange (seen (I.view index.now)) words.0 words.1 }
+    requires listed { length listed.now ≡ (I.view index.now).docs }
+    requires source { IsSource (I.view index.now) }
+    requires fits { HasAllBlocks (S.bytes store.old) (I.view index.now).index }
+    requires fit { All (FitsBlock (I.view index.now).index) blocks.old.items }
+
+    ensures rows { (told : Option (List ℕ)) → ForSome told (λ b. (S.bytes store.old ≡ Some b) × All (HasFileBytes b) blocks.old.items)
+        → OnOk result (AreFrom (I.view index.now) told k (is_chosen words.0 words.1 listed.now) sought.new.posts.items) }
+    ensures fit { All (FitsBlock (I.view index.now).index) blocks.new.items }
+    ensures file { ForSome (S.bytes store.old) (λ b. All (HasFileBytes b) blocks.old.items → All (HasFileBytes b) blocks.new.items) }
+    ensures store { LeavesStore S.bytes S.lent S.faults (I.view index.now).index
+        (IsChangeOfBlock (I.view index.now).index (S.bytes store.old) k) store.old store.new result }
+    ensures reads { ReadsWithin 1 (S.reads store.old) (S.reads store.new) }
+{
+    match blocks.get_mut(k as usize) {
+        Some(block) => seek_block(alloc, index, store, k, words, listed, left, block, sought),
+        None => index.fetch_sought(alloc, store, k, words, listed, sought),
+    }
 }
 
 // The rows of block `k` that are sought, out of what was read of it, or else read. What is read is put there where so many bytes have room,

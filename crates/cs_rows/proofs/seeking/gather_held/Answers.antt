@@ -1,10 +1,6 @@
-use Rattle.std.proofs.Common.{◌≡◌, ◌+◌, ◌<◌, ◌≤◌, ◌∙◌, ◌++◌, Bool, List, ℕ, Option, Some, None, ap, get_or, set, length, map, subst, sym, arith}
+use Rattle.std.proofs.Common.{◌≡◌, ◌+◌, ◌<◌, ◌≤◌, ◌∙◌, ◌++◌, Bool, List, ℕ, Option, Some, None, ap, length, map, subst, sym, arith}
 use Rattle.std.specs.Option.{ForSome}
 use Rattle.std.proofs.lemmas.Option.{none-some}
-use Rattle.std.proofs.lemmas.List.{length-set}
-use Rattle.std.proofs.lemmas.List.Elements.{All-set}
-use Rattle.cs_file.specs.BlockBytes.{FitsBlock, HasFileBytes}
-use Rattle.cs_file.specs.declared.read_block.ReadBlock.{ReadBlock}
 use Rattle.cs_base.specs.declared.content.doc.Base.{Base}
 use Rattle.cs_rows.specs.Sources.{SourceView}
 use Rattle.std.specs.Prelude.{All}
@@ -26,11 +22,6 @@ sieve_told : {bytes : Option (List ℕ)} {v : SourceView} {hits : Base} {listed 
     → ForSome told (λ b. bytes ≡ Some b) → IsSieve told v hits listed
 sieve_told s told h = record { opened = record { source = s.opened.source; fits = λ b is. s.opened.fits b (h b is) }; base = s.base; long = s.long; inside = s.inside }
 
--- blocks of a file stay so where one takes the place of another
-still_filed : (b : List ℕ) (blocks : List ReadBlock) (at : ℕ) (block new : ReadBlock) → block ≡ get_or blocks at block → at < length blocks
-    → (HasFileBytes b block → HasFileBytes b new) → All (HasFileBytes b) blocks → All (HasFileBytes b) (set blocks at new)
-still_filed b blocks at block new is there on all = All-set (HasFileBytes b) blocks at new (on (subst (HasFileBytes b) (sym is) (all at block there))) all
-
 -- the blocks that a hit reaches from the first up to one before the last
 some : (g : given.Over) (c : After-blocks-first g) (k : ℕ) → c.blocks-first.result.0 ≤ k → k ≤ c.blocks-first.result.1
     → hit_blocks c.args.hits.now (g.I.Source.view c.args.index.now).index.heads c.blocks-first.result.0 k
@@ -45,7 +36,6 @@ loop-k-init g c = record {
       (is_chosen c.args.words.0 c.args.words.1 c.args.listed.now) c.new-keys.result.items c.new-keys.ensures.items;
   fit = c.in_ok-add_places.ensures.fit (g.I.Source.view c.args.index.now).index c.requires.fit;
   file = λ b is. c.in_ok-add_places.ensures.file b;
-  places = c.in_ok-add_places.ensures.places;
 }
 
 pub head-requires : goal.head-requires
@@ -68,31 +58,30 @@ loop-k-preserved-then-not-may_hit g c =
           c.args.words.0 c.args.words.1 c.loop-k.keys.items c.loop-k.auto.k below none (c.loop-k.invariant.keys told h);
       fit = c.loop-k.invariant.fit;
       file = c.loop-k.invariant.file;
-      places = c.loop-k.invariant.places;
     }
 
 -- ---- another block
-pub returns-in_err-seek_block-clause-reads : goal.returns-in_err-seek_block-clause-reads
-returns-in_err-seek_block-clause-reads g c =
+pub returns-in_err-seek_in-clause-reads : goal.returns-in_err-seek_in-clause-reads
+returns-in_err-seek_in-clause-reads g c =
     let v = g.I.Source.view c.args.index.now in
     let hits = c.args.hits.now in
     let below : c.loop-k.k < length v.index.heads = omega (arith, c.blocks-first.ensures.within, c.loop-k-test.true) in
     let one = read_where hits v.index.heads c.loop-k.k (ap (may_hit hits) (sym c.head.ensures) ∙ sym c.may_hit.ensures ∙ c.if-not-may_hit.false) in
     let on = next_block hits v.index.heads c.blocks-first.result.0 c.loop-k.k c.loop-k.auto.k below in
-    let all = some g (goal.at.returns-in_err-seek_block-clause-reads g c).After-blocks-first (c.loop-k.k + 1) (omega (arith, c.loop-k.auto.k))
+    let all = some g (goal.at.returns-in_err-seek_in-clause-reads g c).After-blocks-first (c.loop-k.k + 1) (omega (arith, c.loop-k.auto.k))
     (omega (arith, c.loop-k-test.true)) in
-    hits_stop c.loop-k.invariant.walk c.seek_block.ensures.reads (omega (arith, all, on, one))
+    hits_stop c.loop-k.invariant.walk c.seek_in.ensures.reads (omega (arith, all, on, one))
 
-pub returns-in_err-seek_block-clause-store : goal.returns-in_err-seek_block-clause-store
-returns-in_err-seek_block-clause-store g c =
-    hands_on c.from_residual-in_err-seek_block.result c.from_residual-in_err-seek_block.ensures.1
+pub returns-in_err-seek_in-clause-store : goal.returns-in_err-seek_in-clause-store
+returns-in_err-seek_in-clause-store g c =
+    hands_on c.from_residual-in_err-seek_in.result c.from_residual-in_err-seek_in.ensures.1
     (fails_behind c.loop-k.invariant.walk.store
-    (block_fails (omega (arith, c.blocks-first.ensures.within, c.loop-k-test.true)) c.in_err-seek_block.ensures.store))
+    (block_fails (omega (arith, c.blocks-first.ensures.within, c.loop-k-test.true)) c.in_err-seek_in.ensures.store))
 
 pub pack-requires : goal.pack-requires
 pack-requires g c =
     let v = g.I.Source.view c.args.index.now in
-    let from = c.in_ok-seek_block.ensures.rows None (λ b is. absurd (none-some b is)) in
+    let from = c.in_ok-seek_in.ensures.rows None (λ b is. absurd (none-some b is)) in
     subst (λ (w : Weights). All (IsPacked w) c.deref-in-loop-k.result.now) (sym c.weights-weights.ensures)
     (subst (All (IsPacked v.index.weights)) (sym c.deref-in-loop-k.ensures.value) from.packed)
 
@@ -105,7 +94,7 @@ returns-in_err-pack-clause-reads g c =
     let on = next_block hits v.index.heads c.blocks-first.result.0 c.loop-k.k c.loop-k.auto.k below in
     let all = some g (goal.at.returns-in_err-pack-clause-reads g c).After-blocks-first (c.loop-k.k + 1) (omega (arith, c.loop-k.auto.k))
     (omega (arith, c.loop-k-test.true)) in
-    hits_stop c.loop-k.invariant.walk c.seek_block.ensures.reads (omega (arith, all, on, one))
+    hits_stop c.loop-k.invariant.walk c.seek_in.ensures.reads (omega (arith, all, on, one))
 
 pub loop-k-preserved : goal.loop-k-preserved
 loop-k-preserved g c =
@@ -113,18 +102,12 @@ loop-k-preserved g c =
     let hits = c.args.hits.now in
     let inv = c.loop-k.invariant in
     let source = c.requires.sieve.opened.source in
-    let read = c.in_ok-seek_block.ensures in
+    let read = c.in_ok-seek_in.ensures in
     let old = c.loop-k.keys.items in
-    let posts = c.seek_block.new.sought.posts.items in
-    let blocks = c.loop-k.blocks.items in
-    let at = c.loop-k.k in
+    let posts = c.seek_in.new.sought.posts.items in
     let added = c.in_ok-pack.ensures ∙ ap (λ (w : Weights). old ++ map (key_of w) c.deref-in-loop-k.result.now) c.weights-weights.ensures
     ∙ ap (λ (ps : List Post). old ++ map (key_of v.index.weights) ps) c.deref-in-loop-k.ensures.value in
     let below : c.loop-k.k < length v.index.heads = omega (arith, c.blocks-first.ensures.within, c.loop-k-test.true) in
-    let there : at < length blocks = omega (arith, inv.places, c.loop-k-test.true, c.loop-k.auto.k) in
-    let block = c.index_mut-block.result.now in
-    let of_file : (b : List ℕ) → g.S.Store.bytes c.args.store.now ≡ Some b → All (HasFileBytes b) c.args.blocks.now.items → HasFileBytes b block
-    = λ b is all. subst (HasFileBytes b) (sym c.index_mut-block.ensures.value) (inv.file b is all at block there) in
     let one = read_where hits v.index.heads c.loop-k.k (ap (may_hit hits) (sym c.head.ensures) ∙ sym c.may_hit.ensures ∙ c.if-not-may_hit.false) in
     let on = next_block hits v.index.heads c.blocks-first.result.0 c.loop-k.k c.loop-k.auto.k below in
     record {
@@ -133,28 +116,16 @@ loop-k-preserved g c =
       keys = λ told h.
           keys_more v source told c.blocks-first.result.0 c.loop-k.k
           (is_chosen c.args.words.0 c.args.words.1 c.args.listed.now) old c.pack.new.keys.items posts c.loop-k.auto.k below added
-          (read.rows told (λ b is. (inv.walk.store.bytes ∙ (h b is).0, of_file b (h b is).0 (h b is).1))) (inv.keys told h);
-      fit = All-set (FitsBlock v.index) blocks at c.seek_block.new.block read.fit inv.fit;
-      file = λ b is all.
-          still_filed b blocks at block c.seek_block.new.block c.index_mut-block.ensures.value there (read.file b (inv.walk.store.bytes ∙ is)) (inv.file b is all);
-      places = subst (λ n. c.blocks-first.result.1 ≤ n) (sym (length-set blocks at c.seek_block.new.block)) inv.places;
+          (read.rows told (λ b is. (inv.walk.store.bytes ∙ (h b is).0, inv.file b (h b is).0 (h b is).1))) (inv.keys told h);
+      fit = read.fit;
+      file = λ b is all. read.file b (inv.walk.store.bytes ∙ is) (inv.file b is all);
     }
 
-pub returns-in_err-seek_block-clause-file : goal.returns-in_err-seek_block-clause-file
-returns-in_err-seek_block-clause-file g c b is all =
-    let inv = c.loop-k.invariant in
-    let at = c.loop-k.k in
-    let there : at < length c.loop-k.blocks.items = omega (arith, inv.places, c.loop-k-test.true, c.loop-k.auto.k) in
-    still_filed b c.loop-k.blocks.items at c.index_mut-block.result.now c.seek_block.new.block c.index_mut-block.ensures.value there
-    (c.seek_block.ensures.file b (inv.walk.store.bytes ∙ is)) (inv.file b is all)
+pub returns-in_err-seek_in-clause-file : goal.returns-in_err-seek_in-clause-file
+returns-in_err-seek_in-clause-file g c b is all = c.seek_in.ensures.file b (c.loop-k.invariant.walk.store.bytes ∙ is) (c.loop-k.invariant.file b is all)
 
 pub returns-in_err-pack-clause-file : goal.returns-in_err-pack-clause-file
-returns-in_err-pack-clause-file g c b is all =
-    let inv = c.loop-k.invariant in
-    let at = c.loop-k.k in
-    let there : at < length c.loop-k.blocks.items = omega (arith, inv.places, c.loop-k-test.true, c.loop-k.auto.k) in
-    still_filed b c.loop-k.blocks.items at c.index_mut-block.result.now c.seek_block.new.block c.index_mut-block.ensures.value there
-    (c.seek_block.ensures.file b (inv.walk.store.bytes ∙ is)) (inv.file b is all)
+returns-in_err-pack-clause-file g c b is all = c.seek_in.ensures.file b (c.loop-k.invariant.walk.store.bytes ∙ is) (c.loop-k.invariant.file b is all)
 
 -- ---- too many
 pub returns-then-len-room-clause-read : goal.returns-then-len-room-clause-read

@@ -1,4 +1,4 @@
-use Rattle.std.proofs.Common.{◌≡◌, ◌≤◌, ℕ, List, Option, Some, length}
+use Rattle.std.proofs.Common.{◌≡◌, ℕ, List, Option, Some}
 use Rattle.std.specs.List.{All}
 use Rattle.std.specs.Option.{ForSome}
 use Rattle.cs_file.specs.BlockBytes.{FitsBlock, HasFileBytes}
@@ -16,5 +16,4 @@ invariant-loop-k g l = record {
       → HasKeys (g.I.Source.view l.index) told l.first l.k (is_chosen l.words.0 l.words.1 l.listed) l.keys.items;
   fit : All (FitsBlock (g.I.Source.view l.index).index) l.blocks.items;
   file : ForSome (g.S.Store.bytes l.fn.store) (λ b. All (HasFileBytes b) l.fn.blocks.items → All (HasFileBytes b) l.blocks.items);
-  places : l.last ≤ length l.blocks.items;
 }
