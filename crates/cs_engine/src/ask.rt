@@ -60,7 +60,7 @@ pub fn ask_over<I: Source, S: Store>(
     ensures bounded { IsHeldBehind result held.new }
 {
     let alloc = over.alloc;
-    held.make_room(alloc);
+    held.let_go_where_short(alloc);
     let answer = noted_reply(over, store, answers, held);
     let wanted = wants_memory(&answer);
     held.give_back(alloc, wanted);

@@ -71,8 +71,8 @@ impl Engine {
     /// The reply to a request, over the store from which the index was opened, and how it was answered. It goes on from what is kept and
     /// from what is held of ranges of words; blocks are read where that doesn't serve.
     ///
-    /// A failed read and a change of the file are told as such, and want of memory too; the same answers are kept then. Where memory is
-    /// wanted, all that is held of ranges of words is given back.
+    /// A failed read and a change of the file are told as such, and want of memory too; the same answers are kept then. All that is held of
+    /// ranges of words is given back where little memory is left before the request, and where memory is wanted.
     pub fn ask<S: Store>(
         &mut self,
         alloc: Global,

@@ -21,7 +21,7 @@ use cs_file::FetchFault;
 use cs_rows::{Source, first_entry, hits_of_parts};
 
 /// What is found of a query by a plan of what is kept. Where nothing that is kept serves, and the query asks for a wide range of words
-/// alone, it is found by the range, which is taken out of what is held. A last part of many words goes on from blocks that are held.
+/// alone, it is found by the range, which is taken out of what is held. A last part that asks for one range of words goes on from blocks that are held.
 pub(crate) fn find_by<I: Source, S: Store>(
     over: QueryOver<'_, I>,
     answers: &Answers,

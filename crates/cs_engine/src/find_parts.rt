@@ -114,7 +114,7 @@ fn find_words<I: Source, S: Store>(
     Ok(found)
 }
 
-// As `gather_keys` gives them, sought in what is held of blocks. What is read is held.
+// As `gather_keys` gives them, sought in what is held of blocks. What is read is held where it has room, and nothing where little memory was left.
 fn gather_last<I: Source, S: Store>(
     over: QueryOver<'_, I>,
     store: &mut S,

@@ -1,4 +1,4 @@
-//! Ranges of words that are held from one request to the next, within one bound on their bytes, so that their blocks are read once.
+//! Ranges of words, and what was read of blocks by their numbers, that are held from one request to the next, within one bound on their bytes.
 //!
 //! A range that is used is taken out, and held anew behind its use: so nothing that is in use is let go.
 ghost use Rattle.std.specs.Prelude.{◌≡◌, ◌+◌, ◌<◌, ◌≤◌, ◌^◌, [], None, false, true, length, take, IfSome, if◌then◌else◌};
@@ -42,7 +42,7 @@ pub(crate) const BLOCK_BYTES: u128 = 1 << 7;
 /// The words under which blocks are held: none, as they are held by their numbers, for whatever words.
 const NO_WORDS: (u32, u32) = (0, 0);
 
-/// So many bytes are to be free before a request; else what is held goes. Nearly all requests make do with them.
+/// So many bytes are to be had at once before a request; else what is held goes.
 const REQUEST_BYTES: usize = 1 << 23;
 
 /// What is held of a range of words.
@@ -141,8 +141,8 @@ impl Holder {
         self.ranges.truncate(many);
     }
 
-    /// Lets everything go where so little memory is left that a request would want more.
-    pub(crate) fn make_room(&mut self, alloc: Global)
+    /// Lets everything go where little memory is left, and no block is held in the request then.
+    pub(crate) fn let_go_where_short(&mut self, alloc: Global)
         ensures { OnlyGoes self.old self.new }
     {
         let room: Result<Vec<u8>, AllocError> = Vec::with_capacity(alloc, REQUEST_BYTES);

@@ -10,9 +10,9 @@ use Rattle.cs_model.specs.Replies.{FacetShown, table_data}
 use Rattle.cs_json.specs.ReplyTokens.{facets_in_order}
 
 -- the name comes behind that of each facet
-abbrev pub IsBehind : List ℕ → List (Bor FacetShown) → Type 0
-IsBehind name [] = ⊤
-IsBehind name (g ∷ gs) = (slice_cmp nat_cmp name g.now.name ≡ Greater) × IsBehind name gs
+abbrev pub ComesBehind : List ℕ → List (Bor FacetShown) → Type 0
+ComesBehind name [] = ⊤
+ComesBehind name (g ∷ gs) = (slice_cmp nat_cmp name g.now.name ≡ Greater) × ComesBehind name gs
 
 -- the members that the facets are, in their order
 abbrev pub members : List (Bor FacetShown) → Members
@@ -39,24 +39,24 @@ module _ (f : Bor FacetShown) where
   later g gs e = ap (λ o. match_ordering o (members (f ∷ g ∷ gs)) (member g.now.name (table_data f.now.table) (members gs)) (member g.now.name (table_data g.now.table) (placed gs))) e
 
   -- behind all facets it's the last
-  pub put_last : (gs : List (Bor FacetShown)) → IsBehind f.now.name gs → members (gs ++ f ∷ []) ≡ placed gs
+  pub put_last : (gs : List (Bor FacetShown)) → ComesBehind f.now.name gs → members (gs ++ f ∷ []) ≡ placed gs
   put_last [] h = refl
   put_last (g ∷ gs) h = ap (member g.now.name (table_data g.now.table)) (put_last gs h.1) ∙ sym (later g gs h.0)
 
   -- before the first facet whose name is greater
-  pub put_between : (gs : List (Bor FacetShown)) (at : ℕ) (b : Bor FacetShown) → at < length gs → IsBehind f.now.name (take at gs) → b ≡ get_or gs at b → beside b ≡ Less → members (insert gs at f) ≡ placed gs
+  pub put_between : (gs : List (Bor FacetShown)) (at : ℕ) (b : Bor FacetShown) → at < length gs → ComesBehind f.now.name (take at gs) → b ≡ get_or gs at b → beside b ≡ Less → members (insert gs at f) ≡ placed gs
   put_between [] at b l h is e = absurd (omega arith)
   put_between (g ∷ gs) zero b l h is e = sym (first g gs (ap beside (sym is) ∙ e))
   put_between (g ∷ gs) (suc at) b l h is e = ap (member g.now.name (table_data g.now.table)) (put_between gs at b (omega arith) h.1 is e) ∙ sym (later g gs h.0)
 
   -- in the place of the facet with its name
-  pub put_over : (gs : List (Bor FacetShown)) (at : ℕ) (b : Bor FacetShown) → at < length gs → IsBehind f.now.name (take at gs) → b ≡ get_or gs at b → beside b ≡ Equal → members (set gs at f) ≡ placed gs
+  pub put_over : (gs : List (Bor FacetShown)) (at : ℕ) (b : Bor FacetShown) → at < length gs → ComesBehind f.now.name (take at gs) → b ≡ get_or gs at b → beside b ≡ Equal → members (set gs at f) ≡ placed gs
   put_over [] at b l h is e = absurd (omega arith)
   put_over (g ∷ gs) zero b l h is e = sym (same g gs (ap beside (sym is) ∙ e))
   put_over (g ∷ gs) (suc at) b l h is e = ap (member g.now.name (table_data g.now.table)) (put_over gs at b (omega arith) h.1 is e) ∙ sym (later g gs h.0)
 
   -- one more facet before it
-  pub behind_more : (gs : List (Bor FacetShown)) (at : ℕ) (b : Bor FacetShown) → at < length gs → IsBehind f.now.name (take at gs) → b ≡ get_or gs at b → beside b ≡ Greater → IsBehind f.now.name (take (suc at) gs)
+  pub behind_more : (gs : List (Bor FacetShown)) (at : ℕ) (b : Bor FacetShown) → at < length gs → ComesBehind f.now.name (take at gs) → b ≡ get_or gs at b → beside b ≡ Greater → ComesBehind f.now.name (take (suc at) gs)
   behind_more [] at b l h is e = absurd (omega arith)
   behind_more (g ∷ gs) zero b l h is e = (ap beside (sym is) ∙ e, tt)
   behind_more (g ∷ gs) (suc at) b l h is e = (h.0, behind_more gs at b (omega arith) h.1 is e)

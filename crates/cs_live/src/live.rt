@@ -168,8 +168,8 @@ impl Live {
     /// The reply to a request over the corpus as it is now, over the store from which the index was opened, and how it was answered. It goes
     /// on from what is kept and held of this corpus; blocks are read where that doesn't serve.
     ///
-    /// A failed read and a change of the file are told as such, and want of memory too; the same answers are kept then. Where memory is
-    /// wanted, all that is held of ranges of words is given back.
+    /// A failed read and a change of the file are told as such, and want of memory too; the same answers are kept then. All that is held of
+    /// ranges of words is given back where little memory is left before the request, and where memory is wanted.
     pub fn ask<S: Store>(
         &mut self,
         alloc: Global,

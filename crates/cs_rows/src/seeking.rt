@@ -1,4 +1,4 @@
-//! The numbers of rows of some words, sought in blocks that were read before, or are read to be sought in again.
+//! The numbers of rows of some words, gathered block by block until they are too many: sought in blocks that were read before, or read.
 ghost use Rattle.std.specs.Prelude.{◌≡◌, ◌<◌, ◌≤◌, ◌^◌, ℕ, List, Option, Some, length, IfOk, OnOk};
 ghost use Rattle.std.specs.List.{All};
 ghost use Rattle.std.specs.Option.{ForSome};
@@ -17,9 +17,12 @@ use crate::bounds::may_hit;
 use crate::gathering::GatheredKeys;
 use crate::packing::pack;
 use crate::source::Source;
-use cs_base::{Base, Memory, Store};
+use cs_base::{Base, Store};
 use cs_file::{FetchFault, ReadBlock, Sought};
 use std::alloc::Global;
+
+/// So many blocks have a place at most, more than as many rows as may be have in blocks that are as full as they may be.
+const MAX_PLACES: u32 = 1 << 16;
 
 /// Of the rows in listed documents whose word's number is `words.0` or more and below `words.1`, those of the first blocks, until there
 /// are more than `room`. All listed documents are those of `hits`. Each block that holds such a word and that a hit reaches is read at most
@@ -84,8 +87,8 @@ pub fn gather_held<I: Source, S: Store>(
 {
     let weights = index.weights();
     let (first, last) = index.blocks(words);
-    let many = if most > 0 { last as usize } else { 0 };
-    add_places(alloc, blocks, many)?;
+    let many = if most > 0 { last.min(MAX_PLACES) } else { 0 };
+    add_places(alloc, blocks, many as usize);
     let mut left = room_left(most, blocks);
     let mut keys = Vec::new(alloc);
     let mut sought = Sought::new(alloc);
@@ -122,16 +125,17 @@ pub fn gather_held<I: Source, S: Store>(
     })
 }
 
-// Sees to it that there are so many places, those behind the ones that there are without a block.
-fn add_places(alloc: Global, blocks: &mut Vec<ReadBlock>, many: usize) -> Result<(), Memory>
-    ensures places { OnOk result (many ≤ length blocks.new.items) }
+// Sees to it that there are so many places, those behind the ones that there are without a block. Where memory for one is wanted there are
+// fewer, and blocks without a place are read each time.
+fn add_places(alloc: Global, blocks: &mut Vec<ReadBlock>, many: usize)
     ensures fit { (i : IndexView) → All (FitsBlock i) blocks.old.items → All (FitsBlock i) blocks.new.items }
     ensures file { (b : List ℕ) → All (HasFileBytes b) blocks.old.items → All (HasFileBytes b) blocks.new.items }
 {
     for _ in blocks.len()..many {
-        blocks.push(ReadBlock::none(alloc))?;
+        if blocks.push(ReadBlock::none(alloc)).is_err() {
+            return;
+        }
     }
-    Ok(())
 }
 
 // How many of so many bytes are left beside these blocks.

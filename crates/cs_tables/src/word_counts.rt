@@ -171,7 +171,7 @@ fn see_one_at(low: u32, high: u32, marks: &mut [Mark], rows: Rows<'_>, places: &
     let at = (rows.words[0] - low) as usize;
     let mut mark = marks[at];
     for place in places {
-        mark.see_where(rows.docs[*place], true);
+        mark.see(rows.docs[*place]);
     }
     marks[at] = mark;
 }

@@ -1,6 +1,6 @@
 use Rattle.std.proofs.Common.{◌≡◌, ◌<◌, ◌≤◌, Less, Equal, Greater, add-one, ap, arith, length, rules, ◌∙◌, subst}
 use Rattle.std.proofs.lemmas.List.{take_all}
-use Rattle.cs_json.proofs.ByName.{IsBehind, beside, behind_more, members, placed, put_between, put_last, put_over}
+use Rattle.cs_json.proofs.ByName.{ComesBehind, beside, behind_more, members, placed, put_between, put_last, put_over}
 use Rattle.cs_json.proofs.facets.place.Goals as goal
 
 pub returns-in-Less : goal.returns-in-Less
@@ -33,5 +33,5 @@ returns c =
     let f = c.args.facet in
     let xs = c.loop-at.ordered.items in
     let end : length xs ≤ c.loop-at.at = omega (arith, ap (λ v. length v.items) c.loop-at.invariant.0) in
-    let behind : IsBehind f.now.name xs = subst (IsBehind f.now.name) (take_all c.loop-at.at xs end) c.loop-at.invariant.1 in
+    let behind : ComesBehind f.now.name xs = subst (ComesBehind f.now.name) (take_all c.loop-at.at xs end) c.loop-at.invariant.1 in
     ap members c.in_ok-push.ensures.items ∙ put_last f xs behind ∙ ap (λ v. placed f v.items) c.loop-at.invariant.0

@@ -1,4 +1,4 @@
-use Rattle.std.proofs.Common.{◌≤◌, ℕ, List, length}
+use Rattle.std.proofs.Common.{ℕ, List}
 use Rattle.std.specs.List.{All}
 use Rattle.cs_file.specs.Indexes.{IndexView}
 use Rattle.cs_file.specs.BlockBytes.{FitsBlock, HasFileBytes}
@@ -8,5 +8,4 @@ abbrev pub invariant-loop : goal.invariant-loop
 invariant-loop l = record {
   fit : (i : IndexView) → All (FitsBlock i) l.fn.blocks.items → All (FitsBlock i) l.blocks.items;
   file : (b : List ℕ) → All (HasFileBytes b) l.fn.blocks.items → All (HasFileBytes b) l.blocks.items;
-  places : l.counter ≤ length l.blocks.items;
 }

@@ -34,8 +34,8 @@ loop-k-init g c = record {
   walk = hits_begin (hit_blocks c.args.hits.now (g.I.Source.view c.args.index.now).index.heads c.blocks-first.result.0 c.blocks-first.result.0);
   keys = λ told h. no_keys (g.I.Source.view c.args.index.now) told c.blocks-first.result.0
       (is_chosen c.args.words.0 c.args.words.1 c.args.listed.now) c.new-keys.result.items c.new-keys.ensures.items;
-  fit = c.in_ok-add_places.ensures.fit (g.I.Source.view c.args.index.now).index c.requires.fit;
-  file = λ b is. c.in_ok-add_places.ensures.file b;
+  fit = c.add_places.ensures.fit (g.I.Source.view c.args.index.now).index c.requires.fit;
+  file = λ b is. c.add_places.ensures.file b;
 }
 
 pub head-requires : goal.head-requires
@@ -74,7 +74,7 @@ returns-in_err-seek_in-clause-reads g c =
 
 pub returns-in_err-seek_in-clause-store : goal.returns-in_err-seek_in-clause-store
 returns-in_err-seek_in-clause-store g c =
-    hands_on c.from_residual-in_err-seek_in.result c.from_residual-in_err-seek_in.ensures.1
+    hands_on c.from_residual.result c.from_residual.ensures.1
     (fails_behind c.loop-k.invariant.walk.store
     (block_fails (omega (arith, c.blocks-first.ensures.within, c.loop-k-test.true)) c.in_err-seek_in.ensures.store))
 

@@ -13,6 +13,6 @@ loop-place-preserved c =
     let known = c.requires.seen.known l.place-index 0 c.loop-place-test.true in
     place_on c.args.low c.args.high c.args.rows places l.place-index c.args.marks.now (one_marked c.args.low c.args.high c.args.rows c.args.marks.now l.mark) _
     c.loop-place-test.true known.0
-    (one_row c.args.low c.args.high c.args.rows at c.args.marks.now l.mark c.see_where.new.self c.requires.seen.sized c.requires.seen.even c.requires.one known.0
-    (λ few. c.see_where.ensures few ∙ ap (λ b. cond b (saw l.mark doc) l.mark) (sym known.1)))
+    (one_row c.args.low c.args.high c.args.rows at c.args.marks.now l.mark c.see.new.self c.requires.seen.sized c.requires.seen.even c.requires.one known.0
+    (λ few. c.see.ensures few ∙ ap (λ b. cond b (saw l.mark doc) l.mark) (sym known.1)))
     l.invariant

@@ -3,7 +3,7 @@ use Rattle.std.specs.List.{Contains}
 use Rattle.std.proofs.lemmas.List.Elements.{All-contains_itself}
 use Rattle.cs_engine.specs.HeldRanges.{OnlyGoes}
 use Rattle.cs_engine.proofs.RangeLemmas.{held_if}
-use Rattle.cs_engine.proofs.held.Holder.make_room.Goals as goal
+use Rattle.cs_engine.proofs.held.Holder.let_go_where_short.Goals as goal
 
 pub returns : goal.returns
 returns c =
