@@ -18,6 +18,7 @@ pub mod RowGatheringLemmas
 pub mod RowLemmas
 pub mod RowPosts
 pub mod RunHeads
+pub mod SortedRefs
 pub mod TextPartLemmas
 pub mod TitleLemmas
 pub mod WordCharacters

@@ -2,10 +2,9 @@
 --
 --   counted_held         what holds of all where they are held
 --   counted_fits         they are in the range of an index
-use Rattle.std.proofs.Common.{◌≡◌, ◌*◌, ◌≤◌, List, length, Option, Some, None, sym, subst}
+use Rattle.std.proofs.Common.{◌≡◌, ◌≤◌, List, length, Option, Some, None, sym, subst}
 use Rattle.std.specs.Prelude.{All, IfSome, MatchOption}
 use Rattle.cs_base.specs.declared.content.doc.Base.{Base}
-use Rattle.cs_base.specs.declared.content.limits.TheConstants.{MAX_PARTS}
 use Rattle.cs_base.specs.declared.content.scores.TheConstants.{MAX_ROW_SCORE}
 use Rattle.cs_file.specs.Indexes.{IndexView}
 use Rattle.cs_engine.specs.HeldRanges.{FitsRange, HoldsMore}
@@ -24,7 +23,7 @@ pub counted_held : (P : HeldRange → Type 0) (hits : Base) (o : Option CountedW
 counted_held P hits None old new same one all = subst (All P) (sym same) all
 counted_held P hits (Some r) old new more one all = held_more P more one all
 
-pub counted_fits : (i : IndexView) (hits : Base) (o : Option CountedWords) → IsBaseOf i.docs (MAX_ROW_SCORE * MAX_PARTS) hits
-    → IfSome o (λ r. r.counts.high ≤ length i.words) → IfSome o (λ r. FitsRange i (range_with hits r))
-counted_fits i hits None base high = tt
-counted_fits i hits (Some r) base high = (base, high)
+pub counted_fits : (i : IndexView) (hits : Base) (o : Option CountedWords)
+    → IfSome o (λ r. (r.counts.high ≤ length i.words) × IsBaseOf i.docs MAX_ROW_SCORE hits) → IfSome o (λ r. FitsRange i (range_with hits r))
+counted_fits i hits None has = tt
+counted_fits i hits (Some r) has = (has.1, has.0)

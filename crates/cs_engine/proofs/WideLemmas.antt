@@ -6,7 +6,7 @@
 --   wide_range, wide_fits      what is counted in every document is to be held
 --   range_counts     its hits and its table by what is found of the range
 --   alone_met        what is read for the words is within what is read for the query
-use Rattle.std.proofs.Common.{◌≡◌, ℕ, ◌+◌, ◌-◌, ◌≤◌, ◌<◌, ◌==◌, ◌&&◌, ◌||◌, Bool, true, false, true≢false, not, inl, inr, Option, Some, None}
+use Rattle.std.proofs.Common.{◌≡◌, ℕ, ◌+◌, ◌-◌, ◌*◌, ◌≤◌, ◌<◌, ◌==◌, ◌&&◌, ◌||◌, Bool, true, false, true≢false, not, inl, inr, Option, Some, None}
 use Rattle.std.proofs.Common.{List, [], ◌∷◌, length, map, take, get_or, refl, sym, ap, subst, ◌∙◌, arith}
 use Rattle.std.specs.Prelude.{filter, sum, IfSome}
 use Rattle.std.specs.List.{AllByRecursion, list_any}
@@ -19,6 +19,7 @@ use Rattle.cs_base.specs.declared.content.doc.Base.TheVariants as base
 use Rattle.cs_base.specs.declared.content.doc.Post.{Post}
 use Rattle.cs_base.specs.declared.content.query.Part.{Part}
 use Rattle.cs_base.specs.declared.content.query.Query.{Query, out-Query}
+use Rattle.cs_base.specs.declared.content.scores.TheConstants.{MAX_ROW_SCORE}
 use Rattle.cs_file.specs.Indexes.{StandsFor}
 use Rattle.cs_model_kept.specs.Due.{met_of_part, met_of_query}
 use Rattle.cs_model_kept.specs.Entries.{base_of, listed_count}
@@ -41,7 +42,7 @@ use Rattle.cs_engine.specs.declared.held.Holding.{Holding}
 use Rattle.cs_engine.specs.declared.held.Holding.TheVariants as holding
 use Rattle.cs_rows.specs.Sources.{IsSource, SourceView, met_in, seen}
 use Rattle.cs_engine.specs.Loose.{AreCountsFor, AreLastWords, IsEntryByWords}
-use Rattle.cs_rows.specs.Steps.{AreHitsOver}
+use Rattle.cs_rows.specs.Steps.{AreHitsOver, IsBaseOf}
 use Rattle.cs_rows.specs.Stocked.{Stock, base_posts, corpus_in, is_between}
 use Rattle.cs_engine.specs.Finding.{AreWide, AsksAlone, AsksRange}
 use Rattle.cs_rows.proofs.CountingLemmas.{listed_all}
@@ -149,6 +150,9 @@ module _ (hits : Base) (lo hi : ℕ) (counts : WordCountsView) where
       subst (λ (x : CountedWords). IsWideFound (filter (is_between x.low x.high) posts) found x.counts) (sym some.1)
       (record { found = subst (λ x. HasFound x (base_posts x rows) found counts) some.0 has; many = omega (arith, fewer, none, many) })
 
-  pub wide_fits : (words : ℕ) (o : Option CountedWords) → IfSome o (IsCountedIn hits lo hi counts) → counts.high ≤ words → IfSome o (λ r. r.counts.high ≤ words)
-  wide_fits words None none few = tt
-  wide_fits words (Some r) some few = subst (λ (x : CountedWords). x.counts.high ≤ words) (sym some.1) few
+  pub wide_fits : (docs words : ℕ) (found : Base) (o : Option CountedWords) → IfSome o (IsCountedIn hits lo hi counts) → counts.high ≤ words
+      → ((n : ℕ) → IsBaseOf docs (MAX_ROW_SCORE * n) hits → IsBaseOf docs (MAX_ROW_SCORE * (n + 1)) found)
+      → IfSome o (λ r. (r.counts.high ≤ words) × IsBaseOf docs MAX_ROW_SCORE found)
+  wide_fits docs words found None none few fits = tt
+  wide_fits docs words found (Some r) some few fits =
+      (subst (λ (x : CountedWords). x.counts.high ≤ words) (sym some.1) few, fits 0 (subst (IsBaseOf docs (MAX_ROW_SCORE * 0)) (sym some.0) tt))

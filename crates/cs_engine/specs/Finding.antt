@@ -65,12 +65,12 @@ AsksRange v q lo hi = AsksAlone v (out-Query q).parts lo hi
 abbrev pub AreWide : SourceView → List HeldRange → ℕ → ℕ → Type 0
 AreWide v held lo hi = AreMany v lo hi ⊎ (list_any (is_range lo hi kinds.Counted) held ≡ true)
 
--- whatever store it was read from
+-- whatever store it was read from; hits that are to be held with counted words have no score above a row's
 pub record FitsFound (i : IndexView) (q : Query) (f : QueryFound) : Type 0 where
   pub base : IsBaseOf i.docs (MAX_ROW_SCORE * MAX_PARTS) f.hits
   pub table : All (λ w. w.word < length i.words) f.table.first
   pub own : IfSome f.own (FitsQuery i q)
-  pub range : IfSome f.range (λ r. r.counts.high ≤ length i.words)
+  pub range : IfSome f.range (λ r. (r.counts.high ≤ length i.words) × IsBaseOf i.docs MAX_ROW_SCORE f.hits)
 
 -- where no own entry comes along, it was kept before or is too large; the hits with counted words are those of a query of these words alone
 pub record IsFoundOver (b : List ℕ) (v : SourceView) (q : Query) (cut : ℕ) (p : Plan) (f : QueryFound) : Type 0 where

@@ -20,7 +20,6 @@
 --   AreHeldOver s rs     each of the held ones is
 use Rattle.std.specs.Prelude.{◌≡◌, ◌⊎◌, ℕ, ◌+◌, ◌-◌, ◌*◌, ◌<◌, ◌≤◌, ◌==◌, ◌&&◌, Bool, true, false, List, [], ◌∷◌, ◌++◌, filter, length, take, slice_index_or}
 use Rattle.std.specs.List.{All, Contains, sum_by}
-use Rattle.cs_base.specs.declared.content.limits.TheConstants.{MAX_PARTS}
 use Rattle.cs_base.specs.declared.content.scores.TheConstants.{MAX_ROW_SCORE}
 use Rattle.cs_file.specs.Indexes.{IndexView}
 use Rattle.cs_file.specs.BlockBytes.{FitsBlock, HasFileBytes, read_size}
@@ -100,7 +99,7 @@ OnlyGoes old new = All (Contains old) new
 -- whatever store it was read from
 abbrev pub FitsHolding : IndexView → Holding → Type 0
 FitsHolding i (holding.Rows rows) = AreWithin i rows.posts
-FitsHolding i (holding.Counted hits counts) = IsBaseOf i.docs (MAX_ROW_SCORE * MAX_PARTS) hits × (counts.high ≤ length i.words)
+FitsHolding i (holding.Counted hits counts) = IsBaseOf i.docs MAX_ROW_SCORE hits × (counts.high ≤ length i.words)
 FitsHolding i (holding.Blocks blocks) = All (FitsBlock i) blocks.items
 
 -- by what is held of it

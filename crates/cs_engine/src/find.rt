@@ -1,5 +1,5 @@
 //! Finding a query's hits and completions by a plan of what is kept, and its own entry where that wasn't kept before.
-ghost use Rattle.std.specs.Prelude.{◌≡◌, false, true, is_some, IfOk};
+ghost use Rattle.std.specs.Prelude.{◌≡◌, false, true, is_some, IfOk, IfSome};
 ghost use Rattle.std.specs.List.{All};
 ghost use Rattle.cs_base.specs.outside.Causes.{ReadsWithin};
 ghost use Rattle.cs_model_kept.specs.{Due.{met_by, met_of_query}, KeptList.{is_same}, Sharp.{sharp_by}};
@@ -7,21 +7,26 @@ ghost use Rattle.cs_rows.specs.IndexReading.{division, OnlyReads, WhereStood};
 ghost use Rattle.cs_engine.specs.Finding.{CanFind, FitsFound, IsFoundAnew, IsFoundOver};
 ghost use Rattle.cs_engine.specs.HeldRanges.{AreHeldOver, FitsRange};
 ghost use Rattle.cs_engine.specs.Keeping.{HoldsGood, IsPlanned};
-ghost use Rattle.cs_rows.specs.Sources.{seen};
-ghost use Rattle.cs_rows.specs.Stocked.{corpus_in};
+ghost use Rattle.cs_base.specs.declared.content.scores.TheConstants.{MAX_ROW_SCORE};
+ghost use Rattle.cs_file.specs.Indexes.{IndexView};
+ghost use Rattle.cs_rows.specs.KnownHits.{AreHitsOfWords};
+ghost use Rattle.cs_rows.specs.Sources.{IsSource, seen};
+ghost use Rattle.cs_rows.specs.Steps.{IsBaseOf};
+ghost use Rattle.cs_rows.specs.Stocked.{Stock, corpus_in};
 
 use crate::find_kept::{hits_before_last, narrowed};
 use crate::find_parts::find_last;
 use crate::find_range::{find_range, wide_words};
 use crate::finding::{QueryFound, QueryOver, found_in, found_with};
 use crate::held::Holder;
-use cs_base::{Keys, Plan, Store};
+use cs_base::{Keys, Part, Plan, Store};
 use cs_cache::Answers;
 use cs_file::FetchFault;
-use cs_rows::{Source, first_entry, hits_of_parts};
+use cs_rows::{KnownHits, Source, first_entry, hits_of_parts, words_of_part};
 
 /// What is found of a query by a plan of what is kept. Where nothing that is kept serves, and the query asks for a wide range of words
-/// alone, it is found by the range, which is taken out of what is held. A last part that asks for one range of words goes on from blocks that are held.
+/// alone, it is found by the range, which is taken out of what is held. A last part that asks for one range of words goes on from blocks that are held,
+/// and of a first part that does, hits that are held are taken.
 pub(crate) fn find_by<I: Source, S: Store>(
     over: QueryOver<'_, I>,
     answers: &Answers,
@@ -109,7 +114,21 @@ fn find_fresh<I: Source, S: Store>(
         let found = find_range(over, store, words, held)?;
         return Ok(found);
     }
-    let hits = hits_of_parts(over.alloc, over.index, store, &parts[..parts.len() - 1])?;
+    let known = known_hits(over.index, held, parts);
+    let before_last = &parts[..parts.len() - 1];
+    let hits = hits_of_parts(over.alloc, over.index, store, known, before_last)?;
     let found = find_last(over, store, hits, held)?;
     Ok(found)
+}
+
+// The hits that are held of the words that the first part asks for.
+fn known_hits<'a, I: Source>(index: &I, held: &'a Holder, parts: &[Part]) -> Option<KnownHits<'a>>
+    requires { IsSource (I.view index.now) }
+
+    ensures fits { (i : IndexView) → All (FitsRange i) held.now → IfSome result (λ k. IsBaseOf i.docs MAX_ROW_SCORE k.hits.now) }
+    ensures over { (s : Stock) → AreHeldOver s held.now → IfSome result (AreHitsOfWords s) }
+{
+    let part = parts.first()?;
+    let words = words_of_part(index, part)?;
+    held.hits_of(words)
 }

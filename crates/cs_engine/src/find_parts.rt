@@ -1,20 +1,20 @@
 //! Finding by the parts of a query, the last one by what it asks for. Where its own entry is too large, its rows are brought into no
 //! order.
-ghost use Rattle.std.specs.Prelude.{◌≡◌, ℕ, ◌+◌, ◌-◌, ◌*◌, ◌^◌, ◌≤◌, ◌<◌, nat_lt, List, Option, filter, length, None, Some, IfOk, IfSome};
+ghost use Rattle.std.specs.Prelude.{◌≡◌, ◌+◌, ◌-◌, ◌*◌, ◌≤◌, ◌<◌, nat_lt, filter, length, None, Some, IfOk, IfSome};
 ghost use Rattle.std.specs.List.{All};
 ghost use Rattle.std.specs.Option.{ForSome};
-ghost use Rattle.cs_file.specs.Indexes.{StandsFor};
+ghost use Rattle.cs_file.specs.BlockBytes.{FitsBlock, HasFileBytes};
 ghost use Rattle.cs_base.specs.declared.content.doc.Base.TheVariants as base;
 ghost use Rattle.cs_base.specs.{outside.Causes.{ReadsWithin}, declared.content.scores.TheConstants.{MAX_ROW_SCORE}, declared.content.query.Query.{out-Query}};
 ghost use Rattle.cs_model.specs.Keys.{last_of};
 ghost use Rattle.cs_model_kept.specs.{Entries.{listed_count}, KeptListLaws.{before_last}, declared.limits.TheConstants.{MAX_ENTRY_SIZE}};
-ghost use Rattle.cs_rows.specs.IndexReading.{division, IsWordRange, OnlyReads, WhereStood};
+ghost use Rattle.cs_rows.specs.IndexReading.{division, OnlyReads, WhereStood};
 ghost use Rattle.cs_rows.specs.Counting.{AreListed, in_listed};
 ghost use Rattle.cs_engine.specs.Finding.{CanFind, FitsFound, IsFoundAnew};
 ghost use Rattle.cs_rows.specs.GatheredRows.{HasGathered};
 ghost use Rattle.cs_engine.specs.HeldRanges.{AreHeldOver, FitsRange};
 ghost use Rattle.cs_engine.specs.Loose.{AreLastWords, IsEntryByWords};
-ghost use Rattle.cs_rows.specs.Skipping.{IsSieve, hit_blocks, hit_met, hit_of_last};
+ghost use Rattle.cs_rows.specs.Skipping.{hit_blocks, hit_met, hit_of_last};
 ghost use Rattle.cs_rows.specs.Sources.{seen};
 ghost use Rattle.cs_rows.specs.Steps.{AreHitsOver, IsBaseOf};
 ghost use Rattle.cs_rows.specs.Stocked.{is_between};
@@ -27,8 +27,8 @@ use cs_cols::Cols;
 use cs_file::FetchFault;
 use cs_model_kept::MAX_ENTRY_SIZE;
 use cs_rows::{
-    GatheredKeys, Source, extended_entry, found_behind, gather_held, listed_count, listed_docs,
-    lists_none, many_chosen, ordered, pack_chosen, words_of_part,
+    GatheredKeys, ReadBlocks, Source, extended_entry, found_behind, gather_held, listed_count,
+    listed_docs, lists_none, many_chosen, ordered, pack_chosen, words_of_part,
 };
 use cs_tables::WordCounts;
 
@@ -97,65 +97,49 @@ fn find_words<I: Source, S: Store>(
     ensures store { OnlyReads S.bytes S.lent S.faults (I.view over.entry.index.now).index store.old store.new result }
     ensures reads { ReadsWithin (hit_met (I.view over.entry.index.now) hits words.0 words.1) (S.reads store.old) (S.reads store.new) }
 {
+    let mut blocks = taken_blocks(over.alloc, held);
+    let found = find_in_blocks(over, store, hits, words, &mut blocks);
+    hold_blocks(held, blocks);
+    found
+}
+
+// The same, sought in what was read of blocks before. What is read is put there where it has room.
+fn find_in_blocks<I: Source, S: Store>(
+    over: QueryOver<'_, I>,
+    store: &mut S,
+    hits: Base,
+    words: (u32, u32),
+    blocks: &mut ReadBlocks,
+) -> Result<QueryFound, FetchFault>
+    requires asks { AreLastWords (seen (I.view over.index.now)) over.query.now hits words.0 words.1 }
+    requires fit { All (FitsBlock (I.view over.index.now).index) blocks.old.blocks.items }
+    requires over { CanFind (S.bytes store.old) (I.view over.index.now) over.query.now }
+
+    ensures told { WhereStood (S.bytes store.old) (I.view over.entry.index.now).index
+        (λ b. All (HasFileBytes b) blocks.old.blocks.items
+        → IsEntryByWords b (I.view over.entry.index.now) over.entry.query.now hits words.0 words.1
+        → IfOk result (IsFoundAnew b (I.view over.entry.index.now) over.entry.query.now over.entry.cut)) }
+    ensures fits { IfOk result (FitsFound (seen (I.view over.entry.index.now)) over.entry.query.now) }
+    ensures fit { All (FitsBlock (I.view over.entry.index.now).index) blocks.new.blocks.items }
+    ensures file { ForSome (S.bytes store.old) (λ b. All (HasFileBytes b) blocks.old.blocks.items → All (HasFileBytes b) blocks.new.blocks.items) }
+    ensures store { OnlyReads S.bytes S.lent S.faults (I.view over.entry.index.now).index store.old store.new result }
+    ensures reads { ReadsWithin (hit_met (I.view over.entry.index.now) hits words.0 words.1) (S.reads store.old) (S.reads store.new) }
+{
     let QueryOver { alloc, index, .. } = over;
     let weights = index.weights();
     let listed = listed_docs(alloc, index, &hits)?;
     let marks: &[bool] = &listed;
     let room = MAX_ENTRY_SIZE.saturating_sub(listed_count(&hits));
-    let mut gathered = gather_last(over, store, words, &hits, marks, room, held)?;
+    let mut gathered = gather_held(alloc, index, store, words, &hits, marks, room, blocks)?;
     let added = index.held(words);
     if are_more(gathered.keys.len(), many_chosen(added, words, marks), room) {
-        let found = find_behind(over, store, &hits, words, marks, &gathered)?;
+        let found = find_behind(over, store, &hits, words, marks, &gathered, blocks)?;
         return Ok(found);
     }
     pack_chosen(weights, added, words, marks, &mut gathered.keys)?;
     let rows = ordered(alloc, weights, gathered.keys)?;
     let found = found_with(over, Entry { base: hits, rows })?;
     Ok(found)
-}
-
-// As `gather_keys` gives them, sought in what is held of blocks. What is read is held where it has room, and nothing where little memory was left.
-fn gather_last<I: Source, S: Store>(
-    over: QueryOver<'_, I>,
-    store: &mut S,
-    words: (u32, u32),
-    hits: &Base,
-    listed: &[bool],
-    room: usize,
-    held: &mut Holder,
-) -> Result<GatheredKeys, FetchFault>
-    requires words { IsWordRange (seen (I.view over.index.now)) words.0 words.1 }
-    requires sieve { IsSieve (S.bytes store.old) (I.view over.index.now) hits.now listed.now }
-    requires held { All (FitsRange (seen (I.view over.index.now))) held.old }
-
-    ensures gathered { (told : Option (List ℕ)) → ForSome told (λ b. (S.bytes store.old ≡ Some b)
-        × StandsFor b (I.view over.entry.index.now).index × AreHeldOver ((I.view over.entry.index.now).stock b) held.old)
-        → IfOk result (λ g. HasGathered (I.view over.entry.index.now) told words.0 words.1 listed.now g) }
-    ensures whole { IfOk result (λ g. g.next < g.last → (room < length g.keys.items) × (length g.keys.items < 2 ^ 64)) }
-    ensures held { All (FitsRange (seen (I.view over.entry.index.now))) held.new }
-    ensures good { WhereStood (S.bytes store.old) (I.view over.entry.index.now).index
-        (λ b. AreHeldOver ((I.view over.entry.index.now).stock b) held.old → AreHeldOver ((I.view over.entry.index.now).stock b) held.new) }
-    ensures store { OnlyReads S.bytes S.lent S.faults (I.view over.entry.index.now).index store.old store.new result }
-    ensures read { IfOk result (λ g. ReadsWithin (hit_blocks hits.now (I.view over.entry.index.now).index.heads g.first g.next)
-        (S.reads store.old) (S.reads store.new)) }
-    ensures reads { ReadsWithin (hit_met (I.view over.entry.index.now) hits.now words.0 words.1) (S.reads store.old) (S.reads store.new) }
-{
-    let QueryOver { alloc, index, .. } = over;
-    let most = held.most_of_blocks();
-    let mut blocks = taken_blocks(alloc, held);
-    let gathered = gather_held(
-        alloc,
-        index,
-        store,
-        words,
-        hits,
-        listed,
-        room,
-        most,
-        &mut blocks,
-    );
-    hold_blocks(held, blocks);
-    gathered
 }
 
 // Whether so many and so many are together more than there is room for.
@@ -175,25 +159,30 @@ fn find_behind<I: Source, S: Store>(
     words: (u32, u32),
     listed: &[bool],
     gathered: &GatheredKeys,
+    blocks: &mut ReadBlocks,
 ) -> Result<QueryFound, FetchFault>
     requires asks { AreLastWords (seen (I.view over.index.now)) over.query.now hits.now words.0 words.1 }
     requires listed { AreListed (I.view over.index.now).present hits.now listed.now }
     requires gathered { HasGathered (I.view over.index.now) None words.0 words.1 listed.now gathered.now }
+    requires fit { All (FitsBlock (I.view over.index.now).index) blocks.old.blocks.items }
     requires over { CanFind (S.bytes store.old) (I.view over.index.now) over.query.now }
 
     ensures told { WhereStood (S.bytes store.old) (I.view over.entry.index.now).index
         (λ b. HasGathered (I.view over.entry.index.now) (Some b) words.0 words.1 listed.now gathered.now
+        → All (HasFileBytes b) blocks.old.blocks.items
         → IsEntryByWords b (I.view over.entry.index.now) over.entry.query.now hits.now words.0 words.1
         → MAX_ENTRY_SIZE < length (filter (in_listed listed.now) (filter (is_between words.0 words.1) ((I.view over.entry.index.now).stock b).posts))
         + listed_count hits.now
         → IfOk result (IsFoundAnew b (I.view over.entry.index.now) over.entry.query.now over.entry.cut)) }
     ensures fits { IfOk result (FitsFound (seen (I.view over.entry.index.now)) over.entry.query.now) }
+    ensures fit { All (FitsBlock (I.view over.entry.index.now).index) blocks.new.blocks.items }
+    ensures file { ForSome (S.bytes store.old) (λ b. All (HasFileBytes b) blocks.old.blocks.items → All (HasFileBytes b) blocks.new.blocks.items) }
     ensures store { OnlyReads S.bytes S.lent S.faults (I.view over.entry.index.now).index store.old store.new result }
     ensures reads { ReadsWithin (hit_blocks hits.now (I.view over.entry.index.now).index.heads gathered.now.next gathered.now.last)
         (S.reads store.old) (S.reads store.new) }
 {
     let QueryOver { alloc, index, .. } = over;
-    let (found, counts) = found_behind(alloc, index, store, hits, words, listed, gathered)?;
+    let (found, counts) = found_behind(alloc, index, store, hits, words, listed, gathered, blocks)?;
     let table = counts.table(alloc, over.cut)?;
     Ok(QueryFound {
         hits: found,

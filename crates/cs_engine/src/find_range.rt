@@ -1,8 +1,8 @@
 //! Finding by a wide range of words alone, whose own entry is too large to be kept: what is found of it is held in its place.
-ghost use Rattle.std.specs.Prelude.{◌≡◌, ◌*◌, ◌≤◌, filter, length, IfOk, IfSome};
+ghost use Rattle.std.specs.Prelude.{◌≡◌, ◌≤◌, filter, length, IfOk, IfSome};
 ghost use Rattle.std.specs.List.{All};
 ghost use Rattle.cs_base.specs.declared.content.doc.Base.TheVariants as base;
-ghost use Rattle.cs_base.specs.declared.content.{limits.TheConstants.{MAX_PARTS}, scores.TheConstants.{MAX_ROW_SCORE}};
+ghost use Rattle.cs_base.specs.declared.content.scores.TheConstants.{MAX_ROW_SCORE};
 ghost use Rattle.cs_base.specs.outside.Causes.{ReadsWithin};
 ghost use Rattle.cs_rows.specs.Blockwise.{HasFound};
 ghost use Rattle.cs_engine.specs.Finding.{AreWide, AsksAlone, AsksRange, CanFind, FitsFound, IsFoundAnew};
@@ -16,7 +16,7 @@ use crate::finding::{CountedWords, QueryFound, QueryOver};
 use crate::held::{HeldKind, Holder, Holding};
 use cs_base::{Base, Part, Store};
 use cs_file::FetchFault;
-use cs_rows::{Source, found_behind, listed_docs, nothing_gathered, words_of_part};
+use cs_rows::{Source, found_in_all, words_of_part};
 use cs_tables::WordCounts;
 use std::alloc::Global;
 
@@ -89,7 +89,7 @@ fn counted_words<I: Source, S: Store>(
     ensures told { WhereStood (S.bytes store.old) (I.view index.now).index
         (λ b. AreHeldOver ((I.view index.now).stock b) held.old
         → IfOk result (λ f. HasFound base.All (filter (is_between words.0 words.1) ((I.view index.now).stock b).posts) f.0 f.1)) }
-    ensures base { IfOk result (λ f. IsBaseOf (I.view index.now).docs (MAX_ROW_SCORE * MAX_PARTS) f.0) }
+    ensures base { IfOk result (λ f. IsBaseOf (I.view index.now).docs MAX_ROW_SCORE f.0) }
     ensures words { IfOk result (λ f. f.1.high ≤ length (I.view index.now).words) }
     ensures held { OnlyGoes held.old held.new }
     ensures store { OnlyReads S.bytes S.lent S.faults (I.view index.now).index store.old store.new result }
@@ -98,29 +98,6 @@ fn counted_words<I: Source, S: Store>(
     if let Some(Holding::Counted { hits, counts }) = held.take(words, HeldKind::Counted) {
         return Ok((hits, counts));
     }
-    let found = read_words(alloc, index, store, words)?;
-    Ok(found)
-}
-
-// The hits of a range of words, and these words, counted. Each block that holds such a word is read once.
-fn read_words<I: Source, S: Store>(
-    alloc: Global,
-    index: &I,
-    store: &mut S,
-    words: (u32, u32),
-) -> Result<(Base, WordCounts), FetchFault>
-    requires words { IsWordRange (seen (I.view index.now)) words.0 words.1 }
-    requires opened { CanRead (S.bytes store.old) (I.view index.now) }
-
-    ensures told { WhereStood (S.bytes store.old) (I.view index.now).index
-        (λ b. IfOk result (λ f. HasFound base.All (filter (is_between words.0 words.1) ((I.view index.now).stock b).posts) f.0 f.1)) }
-    ensures base { IfOk result (λ f. IsBaseOf (I.view index.now).docs (MAX_ROW_SCORE * MAX_PARTS) f.0) }
-    ensures words { IfOk result (λ f. f.1.high ≤ length (I.view index.now).words) }
-    ensures store { OnlyReads S.bytes S.lent S.faults (I.view index.now).index store.old store.new result }
-    ensures reads { ReadsWithin (met_in (I.view index.now) words.0 words.1) (S.reads store.old) (S.reads store.new) }
-{
-    let all = listed_docs(alloc, index, &Base::All)?;
-    let none = nothing_gathered(alloc, index, words);
-    let found = found_behind(alloc, index, store, &Base::All, words, &all, &none)?;
+    let found = found_in_all(alloc, index, store, words)?;
     Ok(found)
 }

@@ -1,10 +1,14 @@
 //! Ranges of words, and what was read of blocks by their numbers, that are held from one request to the next, within one bound on their bytes.
 //!
-//! A range that is used is taken out, and held anew behind its use: so nothing that is in use is let go.
+//! A range that is used is taken out, and held anew behind its use; hits of a first part are lent where it stands, and copied before anything is
+//! held. So nothing that is in use is let go.
 ghost use Rattle.std.specs.Prelude.{◌≡◌, ◌+◌, ◌<◌, ◌≤◌, ◌^◌, [], None, false, true, length, take, IfSome, if◌then◌else◌};
 ghost use Rattle.std.specs.List.{All, list_any};
 ghost use Rattle.cs_file.specs.BlockBytes.{FitsBlock, HasFileBytes};
 ghost use Rattle.cs_file.specs.Indexes.{IndexView};
+ghost use Rattle.cs_base.specs.declared.content.scores.TheConstants.{MAX_ROW_SCORE};
+ghost use Rattle.cs_rows.specs.KnownHits.{AreHitsOfWords};
+ghost use Rattle.cs_rows.specs.Steps.{IsBaseOf};
 ghost use Rattle.cs_rows.specs.Stocked.{Stock};
 ghost use Rattle.cs_engine.specs.declared.held.Holding.TheVariants as holding;
 ghost use Rattle.cs_engine.specs.declared.held.HeldKind.TheVariants as kinds;
@@ -13,7 +17,7 @@ ghost use Rattle.cs_engine.specs.HeldRanges.{AreHeldOver, FitsRange, HoldsMore, 
 use cs_base::Base;
 use cs_cols::Cols;
 use cs_file::ReadBlock;
-use cs_rows::listed_count;
+use cs_rows::{KnownHits, ReadBlocks, listed_count};
 use cs_tables::WordCounts;
 use std::alloc::{AllocError, Global};
 use std::marker::Model;
@@ -75,7 +79,7 @@ pub(crate) struct HeldRange {
     pub(crate) what: Holding,
 }
 
-/// Ranges that are held, the last used first.
+/// Ranges that are held, the last used first; that its hits are lent is no use of a range.
 #[derive(Drop)]
 pub struct Holder {
     ranges: Vec<HeldRange>,
@@ -118,6 +122,18 @@ impl Holder {
         Some(range.what)
     }
 
+    /// The hits that are held of a query of these words alone.
+    pub(crate) fn hits_of(&self, words: (u32, u32)) -> Option<KnownHits<'_>>
+        ensures fits { (i : IndexView) → All (FitsRange i) self.now → IfSome result (λ k. IsBaseOf i.docs MAX_ROW_SCORE k.hits.now) }
+        ensures over { (s : Stock) → AreHeldOver s self.now → IfSome result (AreHitsOfWords s) }
+    {
+        let place = place_of(&self.ranges, words, HeldKind::Counted)?;
+        match &self.ranges[place].what {
+            Holding::Counted { hits, .. } => Some(KnownHits { words, hits }),
+            Holding::Rows(_) | Holding::Blocks(_) => None,
+        }
+    }
+
     /// Whether what is counted of these words is held.
     pub(crate) fn has_counted(&self, words: (u32, u32)) -> bool
         ensures { result ≡ list_any (is_range words.0 words.1 kinds.Counted) self.now }
@@ -152,7 +168,7 @@ impl Holder {
     }
 
     /// How many bytes of blocks may be held: none where little memory was left before the request.
-    pub(crate) fn most_of_blocks(&self) -> u128 {
+    fn most_of_blocks(&self) -> u128 {
         if self.is_short { 0 } else { MAX_BLOCKS_BYTES }
     }
 
@@ -167,27 +183,30 @@ impl Holder {
     }
 }
 
-/// What was read of blocks, by their numbers, taken out of what is held.
-pub(crate) fn taken_blocks(alloc: Global, held: &mut Holder) -> Vec<ReadBlock>
-    ensures fit { (i : IndexView) → All (FitsRange i) held.old → All (FitsBlock i) result.items }
-    ensures file { (s : Stock) → AreHeldOver s held.old → All (HasFileBytes s.bytes) result.items }
+/// What was read of blocks, by their numbers, taken out of what is held, with room for as many bytes as may be held of them.
+pub(crate) fn taken_blocks(alloc: Global, held: &mut Holder) -> ReadBlocks
+    ensures fit { (i : IndexView) → All (FitsRange i) held.old → All (FitsBlock i) result.blocks.items }
+    ensures file { (s : Stock) → AreHeldOver s held.old → All (HasFileBytes s.bytes) result.blocks.items }
     ensures held { OnlyGoes held.old held.new }
 {
+    let most = held.most_of_blocks();
     match held.take(NO_WORDS, HeldKind::Blocks) {
-        Some(Holding::Blocks(blocks)) => blocks,
-        Some(Holding::Rows(_) | Holding::Counted { .. }) | None => Vec::new(alloc),
+        Some(Holding::Blocks(blocks)) => ReadBlocks::new(blocks, most),
+        Some(Holding::Rows(_) | Holding::Counted { .. }) | None => {
+            ReadBlocks::new(Vec::new(alloc), most)
+        }
     }
 }
 
 /// Holds what was read of blocks, by their numbers.
-pub(crate) fn hold_blocks(held: &mut Holder, blocks: Vec<ReadBlock>)
-    ensures { HoldsMore (record { low = 0; high = 0; what = holding.Blocks blocks }) held.old held.new }
+pub(crate) fn hold_blocks(held: &mut Holder, read: ReadBlocks)
+    ensures { HoldsMore (record { low = 0; high = 0; what = holding.Blocks read.blocks }) held.old held.new }
 {
     let (low, high) = NO_WORDS;
     held.hold(HeldRange {
         low,
         high,
-        what: Holding::Blocks(blocks),
+        what: Holding::Blocks(read.blocks),
     });
 }
 

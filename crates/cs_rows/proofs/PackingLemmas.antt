@@ -6,6 +6,7 @@
 --   unkeyed             a packed post is the post of its number
 --   ordered_is, ordered_by     what is left of sorted numbers is in order, and loses no member
 --   packed_posts, within_posts     posts that are read are packed, and in range
+--   docs_below      so are their documents
 --   held_packed, held_within, held_known     so are those in memory
 --   no_keys, keys_more  numbers of no block, and of one block more
 --   run_longer      the posts of a run of blocks
@@ -361,6 +362,11 @@ within_posts v is read ranged = λ j e l.
     let score = score_fits v.index.weights is.index.weights p.facet (get_or read j e) p.scored in
     record { doc = p.doc; word = p.word; score_from = score.0; score_to = score.1 }
 
+pub docs_below : (v : SourceView) (rows : List Post) {docs : ℕ} → docs ≡ v.docs → All (IsWithin v.docs (length v.words)) rows
+    → All (λ p. p.doc < docs) rows
+docs_below v rows {docs} docs_are within =
+    All-weaker (IsWithin v.docs (length v.words)) (λ p. p.doc < docs) (λ p h. let doc = h.doc in omega (arith, doc, docs_are)) rows within
+
 held_ranged : (v : SourceView) → IsSource v → All (IsRanged (seen v)) v.held
 held_ranged v is = All-weaker (IsIn v) (IsRanged (seen v)) (λ p h. h.ranged) v.held is.held
 
@@ -377,8 +383,7 @@ module _ (v : SourceView) (is : IsSource v) (lo hi : ℕ) (held : List Post) (sa
 
   -- their documents are there
   pub held_known : {docs : ℕ} → docs ≡ v.docs → All (λ p. p.doc < docs) held
-  held_known {docs} docs_are =
-      All-weaker (IsWithin v.docs (length v.words)) (λ p. p.doc < docs) (λ p h. let doc = h.doc in omega (arith, doc, docs_are)) held held_within
+  held_known docs_are = docs_below v held docs_are held_within
 
 and_again : (a b : Bool) → (a && (a && b)) ≡ (a && b)
 and_again a b = elim a as (λ x. (x && (x && b)) ≡ (x && b)) [

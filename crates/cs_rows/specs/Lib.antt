@@ -2,6 +2,7 @@ pub mod Blockwise
 pub mod Counting
 pub mod BestScores
 pub mod Packing
+pub mod KnownHits
 pub mod Plain
 pub mod IndexReading
 pub mod Steps

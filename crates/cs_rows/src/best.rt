@@ -84,8 +84,8 @@ fn raise_all(best: &mut [u8], weights: Weights, keys: &[u64])
     }
 }
 
-/// Notes the scores of rows in memory: of those in listed documents whose word's number is `words.0` or more and below `words.1`.
-pub(crate) fn raise_held(best: &mut Vec<u8>, rows: &[Post], words: (u32, u32), listed: &[bool])
+/// Notes the scores of rows at hand: of those in listed documents whose word's number is `words.0` or more and below `words.1`.
+pub(crate) fn raise_at_hand(best: &mut Vec<u8>, rows: &[Post], words: (u32, u32), listed: &[bool])
     requires known { All (λ p. p.doc < length best.old.items) rows.now }
     requires long { length listed.now ≡ length best.old.items }
 

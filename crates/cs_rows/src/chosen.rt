@@ -1,4 +1,4 @@
-//! Rows in memory that are chosen: those of some words in listed documents.
+//! Rows at hand that are chosen: those of some words in listed documents.
 ghost use Rattle.std.specs.Prelude.{◌≡◌, ◌<◌, ◌++◌, List, filter, length, map, OnOk};
 ghost use Rattle.std.specs.List.{All};
 ghost use Rattle.cs_base.specs.declared.content.doc.Post.{Post};

@@ -12,7 +12,7 @@ ghost use Rattle.cs_rows.specs.Sources.{CanRead, seen};
 ghost use Rattle.cs_rows.specs.Steps.{IsBaseOf};
 ghost use Rattle.cs_rows.specs.Stocked.{is_between, base_posts};
 
-use crate::best::{blank_table, raise_held, raise_rows, scored_in};
+use crate::best::{blank_table, raise_at_hand, raise_rows, scored_in};
 use crate::bounds::may_hit;
 use crate::counting::listed_docs;
 use crate::source::Source;
@@ -77,6 +77,6 @@ fn best_in_blocks<I: Source, S: Store>(
         index.fetch_scored(alloc, store, k, &mut block)?;
         raise_rows(&mut best, words, listed, &block);
     }
-    raise_held(&mut best, index.held(words), words, listed);
+    raise_at_hand(&mut best, index.held(words), words, listed);
     Ok(best)
 }

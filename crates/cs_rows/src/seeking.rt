@@ -16,13 +16,11 @@ ghost use Rattle.cs_rows.specs.Sources.{IsSource, seen};
 use crate::bounds::may_hit;
 use crate::gathering::GatheredKeys;
 use crate::packing::pack;
+use crate::read_blocks::ReadBlocks;
 use crate::source::Source;
 use cs_base::{Base, Store};
-use cs_file::{FetchFault, ReadBlock, Sought};
+use cs_file::{FetchFault, Sought};
 use std::alloc::Global;
-
-/// So many blocks have a place at most, more than as many rows as may be have in blocks that are as full as they may be.
-const MAX_PLACES: u32 = 1 << 16;
 
 /// Of the rows in listed documents whose word's number is `words.0` or more and below `words.1`, those of the first blocks, until there
 /// are more than `room`. All listed documents are those of `hits`. Each block that holds such a word and that a hit reaches is read at most
@@ -45,22 +43,11 @@ pub fn gather_keys<I: Source, S: Store>(
     ensures read { IfOk result (λ g. ReadsWithin (hit_blocks hits.now (I.view index.now).index.heads g.first g.next) (S.reads store.old) (S.reads store.new)) }
     ensures reads { ReadsWithin (hit_met (I.view index.now) hits.now words.0 words.1) (S.reads store.old) (S.reads store.new) }
 {
-    let mut unheld = Vec::new(alloc);
-    gather_held(
-        alloc,
-        index,
-        store,
-        words,
-        hits,
-        listed,
-        room,
-        0,
-        &mut unheld,
-    )
+    let mut unheld = ReadBlocks::none(alloc);
+    gather_held(alloc, index, store, words, hits, listed, room, &mut unheld)
 }
 
-/// The same out of what was read of blocks before. `blocks` are those of the index by their numbers; one that is sought
-/// in and isn't there yet is read, and put there while all of them have at most `most` bytes.
+/// The same out of what was read of blocks before. One that is sought in and isn't there yet is read, and put there where it has room.
 pub fn gather_held<I: Source, S: Store>(
     alloc: Global,
     index: &I,
@@ -69,27 +56,24 @@ pub fn gather_held<I: Source, S: Store>(
     hits: &Base,
     listed: &[bool],
     room: usize,
-    most: u128,
-    blocks: &mut Vec<ReadBlock>,
+    blocks: &mut ReadBlocks,
 ) -> Result<GatheredKeys, FetchFault>
     requires words { IsWordRange (seen (I.view index.now)) words.0 words.1 }
     requires sieve { IsSieve (S.bytes store.old) (I.view index.now) hits.now listed.now }
-    requires fit { All (FitsBlock (I.view index.now).index) blocks.old.items }
+    requires fit { All (FitsBlock (I.view index.now).index) blocks.old.blocks.items }
 
-    ensures gathered { (told : Option (List ℕ)) → ForSome told (λ b. (S.bytes store.old ≡ Some b) × All (HasFileBytes b) blocks.old.items)
+    ensures gathered { (told : Option (List ℕ)) → ForSome told (λ b. (S.bytes store.old ≡ Some b) × All (HasFileBytes b) blocks.old.blocks.items)
         → IfOk result (λ g. HasGathered (I.view index.now) told words.0 words.1 listed.now g) }
     ensures whole { IfOk result (λ g. g.next < g.last → (room < length g.keys.items) × (length g.keys.items < 2 ^ 64)) }
-    ensures fit { All (FitsBlock (I.view index.now).index) blocks.new.items }
-    ensures file { ForSome (S.bytes store.old) (λ b. All (HasFileBytes b) blocks.old.items → All (HasFileBytes b) blocks.new.items) }
+    ensures fit { All (FitsBlock (I.view index.now).index) blocks.new.blocks.items }
+    ensures file { ForSome (S.bytes store.old) (λ b. All (HasFileBytes b) blocks.old.blocks.items → All (HasFileBytes b) blocks.new.blocks.items) }
     ensures store { OnlyReads S.bytes S.lent S.faults (I.view index.now).index store.old store.new result }
     ensures read { IfOk result (λ g. ReadsWithin (hit_blocks hits.now (I.view index.now).index.heads g.first g.next) (S.reads store.old) (S.reads store.new)) }
     ensures reads { ReadsWithin (hit_met (I.view index.now) hits.now words.0 words.1) (S.reads store.old) (S.reads store.new) }
 {
     let weights = index.weights();
     let (first, last) = index.blocks(words);
-    let many = if most > 0 { last.min(MAX_PLACES) } else { 0 };
-    add_places(alloc, blocks, many as usize);
-    let mut left = room_left(most, blocks);
+    blocks.reach(alloc, last);
     let mut keys = Vec::new(alloc);
     let mut sought = Sought::new(alloc);
     for k in first..last {
@@ -104,17 +88,7 @@ pub fn gather_held<I: Source, S: Store>(
         if !may_hit(hits, index.head(k)) {
             continue;
         }
-        seek_in(
-            alloc,
-            index,
-            store,
-            k,
-            words,
-            listed,
-            &mut left,
-            blocks,
-            &mut sought,
-        )?;
+        seek_in(alloc, index, store, k, words, listed, blocks, &mut sought)?;
         pack(weights, &sought.posts, &mut keys)?;
     }
     Ok(GatheredKeys {
@@ -125,97 +99,39 @@ pub fn gather_held<I: Source, S: Store>(
     })
 }
 
-// Sees to it that there are so many places, those behind the ones that there are without a block. Where memory for one is wanted there are
-// fewer, and blocks without a place are read each time.
-fn add_places(alloc: Global, blocks: &mut Vec<ReadBlock>, many: usize)
-    ensures fit { (i : IndexView) → All (FitsBlock i) blocks.old.items → All (FitsBlock i) blocks.new.items }
-    ensures file { (b : List ℕ) → All (HasFileBytes b) blocks.old.items → All (HasFileBytes b) blocks.new.items }
+/// The rows of block `k` that are sought, out of what was read of the block of that number, or else read. What is read is put there where
+/// it has a place and room.
+pub(crate) fn seek_in<I: Source, S: Store>(
+    alloc: Global,
+    index: &I,
+    store: &mut S,
+    k: u32,
+    words: (u32, u32),
+    listed: &[bool],
+    blocks: &mut ReadBlocks,
+    sought: &mut Sought,
+) -> Result<(), FetchFault>
+    requires in_range { k < length (I.view index.now).index.heads }
+    requires words { IsWordRange (seen (I.view index.now)) words.0 words.1 }
+    requires listed { length listed.now ≡ (I.view index.now).docs }
+    requires source { IsSource (I.view index.now) }
+    requires fits { HasAllBlocks (S.bytes store.old) (I.view index.now).index }
+    requires fit { All (FitsBlock (I.view index.now).index) blocks.old.blocks.items }
+
+    ensures rows { (told : Option (List ℕ)) → ForSome told (λ b. (S.bytes store.old ≡ Some b) × All (HasFileBytes b) blocks.old.blocks.items)
+        → OnOk result (AreFrom (I.view index.now) told k (is_chosen words.0 words.1 listed.now) sought.new.posts.items) }
+    ensures fit { All (FitsBlock (I.view index.now).index) blocks.new.blocks.items }
+    ensures file { ForSome (S.bytes store.old) (λ b. All (HasFileBytes b) blocks.old.blocks.items → All (HasFileBytes b) blocks.new.blocks.items) }
+    ensures store { LeavesStore S.bytes S.lent S.faults (I.view index.now).index
+        (IsChangeOfBlock (I.view index.now).index (S.bytes store.old) k) store.old store.new result }
+    ensures reads { ReadsWithin 1 (S.reads store.old) (S.reads store.new) }
 {
-    for _ in blocks.len()..many {
-        if blocks.push(ReadBlock::none(alloc)).is_err() {
-            return;
+    if let Some(block) = blocks.blocks.get(k as usize) {
+        if index.seek(k, block, words, listed, &mut sought.posts)? {
+            return Ok(());
         }
     }
-}
-
-// How many of so many bytes are left beside these blocks.
-fn room_left(most: u128, blocks: &[ReadBlock]) -> u128 {
-    let mut left = most;
-    for block in blocks {
-        left = left.saturating_sub(block.size());
-    }
-    left
-}
-
-// The rows of block `k` that are sought, out of what was read of the block of that number, or else read. Where it has no place nothing is put.
-fn seek_in<I: Source, S: Store>(
-    alloc: Global,
-    index: &I,
-    store: &mut S,
-    k: u32,
-    words: (u32, u32),
-    listed: &[bool],
-    left: &mut u128,
-    blocks: &mut Vec<ReadBlock>,
-    sought: &mut Sought,
-) -> Result<(), FetchFault>
-    requires in_range { k < length (I.view index.now).index.heads }
-    requires words { IsWordRange (seen (I.view index.now)) words.0 words.1 }
-    requires listed { length listed.now ≡ (I.view index.now).docs }
-    requires source { IsSource (I.view index.now) }
-    requires fits { HasAllBlocks (S.bytes store.old) (I.view index.now).index }
-    requires fit { All (FitsBlock (I.view index.now).index) blocks.old.items }
-
-    ensures rows { (told : Option (List ℕ)) → ForSome told (λ b. (S.bytes store.old ≡ Some b) × All (HasFileBytes b) blocks.old.items)
-        → OnOk result (AreFrom (I.view index.now) told k (is_chosen words.0 words.1 listed.now) sought.new.posts.items) }
-    ensures fit { All (FitsBlock (I.view index.now).index) blocks.new.items }
-    ensures file { ForSome (S.bytes store.old) (λ b. All (HasFileBytes b) blocks.old.items → All (HasFileBytes b) blocks.new.items) }
-    ensures store { LeavesStore S.bytes S.lent S.faults (I.view index.now).index
-        (IsChangeOfBlock (I.view index.now).index (S.bytes store.old) k) store.old store.new result }
-    ensures reads { ReadsWithin 1 (S.reads store.old) (S.reads store.new) }
-{
-    match blocks.get_mut(k as usize) {
-        Some(block) => seek_block(alloc, index, store, k, words, listed, left, block, sought),
-        None => index.fetch_sought(alloc, store, k, words, listed, sought),
-    }
-}
-
-// The rows of block `k` that are sought, out of what was read of it, or else read. What is read is put there where so many bytes have room,
-// which are fewer then.
-fn seek_block<I: Source, S: Store>(
-    alloc: Global,
-    index: &I,
-    store: &mut S,
-    k: u32,
-    words: (u32, u32),
-    listed: &[bool],
-    left: &mut u128,
-    block: &mut ReadBlock,
-    sought: &mut Sought,
-) -> Result<(), FetchFault>
-    requires in_range { k < length (I.view index.now).index.heads }
-    requires words { IsWordRange (seen (I.view index.now)) words.0 words.1 }
-    requires listed { length listed.now ≡ (I.view index.now).docs }
-    requires source { IsSource (I.view index.now) }
-    requires fits { HasAllBlocks (S.bytes store.old) (I.view index.now).index }
-    requires fit { FitsBlock (I.view index.now).index block.old }
-
-    ensures rows { (told : Option (List ℕ)) → ForSome told (λ b. (S.bytes store.old ≡ Some b) × HasFileBytes b block.old)
-        → OnOk result (AreFrom (I.view index.now) told k (is_chosen words.0 words.1 listed.now) sought.new.posts.items) }
-    ensures fit { FitsBlock (I.view index.now).index block.new }
-    ensures file { ForSome (S.bytes store.old) (λ b. HasFileBytes b block.old → HasFileBytes b block.new) }
-    ensures store { LeavesStore S.bytes S.lent S.faults (I.view index.now).index
-        (IsChangeOfBlock (I.view index.now).index (S.bytes store.old) k) store.old store.new result }
-    ensures reads { ReadsWithin 1 (S.reads store.old) (S.reads store.new) }
-{
-    if index.seek(k, block, words, listed, &mut sought.posts)? {
-        return Ok(());
-    }
     index.fetch_sought(alloc, store, k, words, listed, sought)?;
-    let size = sought.block.size();
-    if size <= *left {
-        *left -= size;
-        *block = sought.take_block(alloc);
-    }
+    blocks.put(alloc, k, sought);
     Ok(())
 }

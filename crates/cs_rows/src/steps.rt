@@ -1,11 +1,12 @@
 //! The hits of a query, part by part, and the entry of a query and one part more.
-ghost use Rattle.std.specs.Prelude.{◌≡◌, ℕ, ◌+◌, ◌*◌, ◌≤◌, not, length, map, sum, IfOk};
+ghost use Rattle.std.specs.Prelude.{◌≡◌, ℕ, ◌+◌, ◌*◌, ◌≤◌, not, length, map, sum, IfOk, IfSome};
 ghost use Rattle.cs_base.specs.{declared.content.scores.TheConstants.{MAX_ROW_SCORE}, outside.Causes.{ReadsWithin}};
 ghost use Rattle.cs_base.specs.{declared.content.limits.TheConstants.{MAX_PARTS}, declared.content.query.Query.{Query, out-Query}};
 ghost use Rattle.cs_base.specs.declared.content.query.Part.{out-Part};
 ghost use Rattle.cs_model.specs.Answers.{rows_of_part};
 ghost use Rattle.cs_model_kept.specs.Due.{met_of_part};
 ghost use Rattle.cs_rows.specs.IndexReading.{division, OnlyReads, WhereStood};
+ghost use Rattle.cs_rows.specs.KnownHits.{AreHitsOfWords};
 ghost use Rattle.cs_rows.specs.Skipping.{hit_of_part};
 ghost use Rattle.cs_rows.specs.Sources.{CanRead, seen};
 ghost use Rattle.cs_rows.specs.Steps.{AreHitsOver, EntryFits, IsBaseOf, IsStep, end_positive};
@@ -15,8 +16,8 @@ use crate::counting::listed_docs;
 use crate::entries::{posts_after, posts_hits};
 use crate::hits::lists_none;
 use crate::inside::rows_inside;
+use crate::known::{KnownHits, hits_in_words};
 use crate::plain::words_of_part;
-use crate::scored::hits_by_words;
 use crate::source::Source;
 use cs_base::{Base, Part, Store};
 use cs_cache::Entry;
@@ -24,18 +25,22 @@ use cs_file::FetchFault;
 use std::alloc::Global;
 
 /// The hits of a query of these parts, one part after the other. Where a part asks for some words, its rows are brought into no order.
-/// Behind parts that leave no hit nothing is read.
+/// `known` are hits of some words alone, which serve where the first part asks for these words.
+/// Behind parts that leave no hit nothing is read, nor for a first part whose hits are known.
 pub fn hits_of_parts<I: Source, S: Store>(
     alloc: Global,
     index: &I,
     store: &mut S,
+    known: Option<KnownHits<'_>>,
     parts: &[Part],
 ) -> Result<Base, FetchFault>
     requires few { length parts.now ≤ MAX_PARTS }
+    requires fits { IfSome known (λ k. IsBaseOf (I.view index.now).docs MAX_ROW_SCORE k.hits.now) }
     requires opened { CanRead (S.bytes store.old) (I.view index.now) }
 
     ensures told { WhereStood (S.bytes store.old) (I.view index.now).index
-        (λ b. IfOk result (λ hits. (q : Query) → parts.now ≡ (out-Query q).parts → AreHitsOver ((I.view index.now).stock b) q hits)) }
+        (λ b. IfSome known.entry (AreHitsOfWords ((I.view index.now).stock b))
+        → IfOk result (λ hits. (q : Query) → parts.now ≡ (out-Query q).parts → AreHitsOver ((I.view index.now).stock b) q hits)) }
     ensures within { IfOk result (IsBaseOf (I.view index.now).docs (MAX_ROW_SCORE * length parts.now)) }
     ensures store { OnlyReads S.bytes S.lent S.faults (I.view index.now).index store.old store.new result }
     ensures reads { ReadsWithin (sum (map (met_of_part (division (I.view index.now).index)) parts.now)) (S.reads store.old) (S.reads store.new) }
@@ -46,8 +51,7 @@ pub fn hits_of_parts<I: Source, S: Store>(
             continue;
         }
         if let Some(words) = words_of_part(index, part) {
-            let scored = hits_by_words(alloc, index, store, &hits, words)?;
-            hits = Base::Listed(scored);
+            hits = hits_in_words(alloc, index, store, &hits, words, known)?;
             continue;
         }
         let entry = extended_entry(alloc, index, store, hits, part)?;

@@ -3,4 +3,3 @@ pub mod GatheringLemmas
 pub mod SameLemmas
 pub mod WordNumberLemmas
 pub mod RangesLemmas
-pub mod SortedRefs

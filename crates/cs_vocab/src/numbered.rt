@@ -48,8 +48,8 @@ impl Numbered {
             mut indices,
             slots: _,
         } = gathering;
-        let (words, told) = listing(alloc, kept.as_slice())?;
-        let known = numbers_of(alloc, &words, kept.as_slice(), told.as_slice())?;
+        let (words, likely) = listing(alloc, kept.as_slice())?;
+        let known = numbers_of(alloc, &words, kept.as_slice(), likely.as_slice())?;
         look_up(known.as_slice(), &mut indices);
         Ok(Numbered {
             words,
@@ -63,7 +63,7 @@ fn numbers_of(
     alloc: Global,
     words: &Vocab,
     gathered: &[Word],
-    told: &[u32],
+    likely: &[u32],
 ) -> Result<Vec<u32>, Memory>
     requires { words.now ≡ members_in (slice_cmp nat_cmp) gathered.now }
 
@@ -71,17 +71,17 @@ fn numbers_of(
 {
     let mut numbers = Vec::with_capacity(alloc, gathered.len())?;
     for (i, word) in gathered.iter().enumerate() {
-        numbers.push(number_of(words, word, told.get(i)))?;
+        numbers.push(number_of(words, word, likely.get(i)))?;
     }
     Ok(numbers)
 }
 
-fn number_of(words: &Vocab, word: &Word, told: Option<&u32>) -> u32
+fn number_of(words: &Vocab, word: &Word, likely: Option<&u32>) -> u32
     requires { list_any (bytes_eq word.now) words.now ≡ true }
 
     ensures { IsWordAt words.now result word.now }
 {
-    if let Some(n) = told
+    if let Some(n) = likely
         && *n < words.len()
         && words.word(*n) == word.bytes()
     {

@@ -22,7 +22,7 @@ const BYTE_ROOM: u64 = 1 << 8;
 #[derive(Drop)]
 pub(crate) struct Sorting<'a> {
     /// The number of its first bytes.
-    key: u64,
+    first_bytes: u64,
     /// The word.
     word: &'a Word,
     /// Its place among those that came.
@@ -38,7 +38,7 @@ impl<'a> Model for Sorting<'a> {
 
     ghost view = { λ s. s.word.now };
 
-    ghost invariant = { λ s. (s.key ≡ lead LEAD_BYTES s.word.now) × ((k : ℕ) → slice_index_or s.word.now k 0 < 256) };
+    ghost invariant = { λ s. (s.first_bytes ≡ lead LEAD_BYTES s.word.now) × ((k : ℕ) → slice_index_or s.word.now k 0 < 256) };
 }
 
 impl<'a> Sorting<'a> {
@@ -47,7 +47,7 @@ impl<'a> Sorting<'a> {
         ensures { result ≡ word.entry.now }
     {
         Sorting {
-            key: lead_of(word.bytes()),
+            first_bytes: lead_of(word.bytes()),
             word,
             place,
         }
@@ -72,7 +72,7 @@ impl PartialEq for Sorting<'_> {
     ghost laws = { Prim.search (comparing, rules) };
 
     fn eq(&self, other: &Sorting<'_>) -> bool {
-        self.key == other.key && self.word == other.word
+        self.first_bytes == other.first_bytes && self.word == other.word
     }
 }
 
@@ -100,10 +100,10 @@ impl Ord for Sorting<'_> {
     ghost matches_eq = { Prim.search (comparing, rules) };
 
     fn cmp(&self, other: &Sorting<'_>) -> Ordering {
-        if self.key < other.key {
+        if self.first_bytes < other.first_bytes {
             return Ordering::Less;
         }
-        if other.key < self.key {
+        if other.first_bytes < self.first_bytes {
             return Ordering::Greater;
         }
         self.word.cmp(other.word)

@@ -1,7 +1,7 @@
 use Rattle.std.proofs.Common.{◌≡◌, map, ap, ◌∙◌}
 use Rattle.std.proofs.lemmas.Result.{IfOk-weaker}
 use Rattle.cs_base.specs.content.Members.{members_in}
-use Rattle.cs_vocab.proofs.SortedRefs.{listed_refs}
+use Rattle.cs_build.proofs.SortedRefs.{listed_refs}
 use Rattle.cs_build.specs.Joining.{by_numbers, place_post}
 use Rattle.cs_build.specs.contracts.block_order.PlaceOrd.TheImpl.Laws.{matches_eq-law}
 use Rattle.cs_build.proofs.BlockOrder.{by_numbers_exact, by_numbers_total, in_their_order, place_of}

@@ -5,7 +5,7 @@ use Rattle.std.proofs.lemmas.Result.{IfOk-weaker}
 use Rattle.cs_base.specs.content.Members.{members_in}
 use Rattle.cs_base.specs.content.Orders.{by_row}
 use Rattle.cs_base.proofs.OrdersLemmas.{by_row_total, by_row_exact}
-use Rattle.cs_vocab.proofs.SortedRefs.{listed_refs}
+use Rattle.cs_build.proofs.SortedRefs.{listed_refs}
 use Rattle.cs_build.specs.Ordering.{row_of_spot}
 use Rattle.cs_build.specs.contracts.ordering.SpotOrd.TheImpl.Laws.{matches_eq-law}
 use Rattle.cs_build.proofs.OrderLemmas.{in_their_order, spot_of}

@@ -48,7 +48,7 @@ returns-in_err-reply-clause-kept g c =
     let fits = c.in_ok-found.ensures.fits in (
       c.requires.kept.0,
       counted_held (FitsRange (seen (g.I.Source.view c.args.over.index.now))) c.in_ok-found.found.hits c.in_ok-found.found.range _ _ c.hold_counted.ensures
-          (counted_fits (seen (g.I.Source.view c.args.over.index.now)) c.in_ok-found.found.hits c.in_ok-found.found.range fits.base fits.range)
+          (counted_fits (seen (g.I.Source.view c.args.over.index.now)) c.in_ok-found.found.hits c.in_ok-found.found.range fits.range)
           c.show-shown.ensures.held,
     )
 
@@ -86,7 +86,7 @@ returns-clause-kept g c =
           (behind_fits i c.args.over.request.now.query c.requires.limits.query c.args.answers.now c.in_ok-keys.keys c.in_ok-keys.ensures.ok
           c.look-plan.result c.look-plan.ensures c.requires.kept.0 c.in_ok-found.found.own fits.own),
       counted_held (FitsRange i) c.in_ok-found.found.hits c.in_ok-found.found.range _ _ c.hold_counted.ensures
-          (counted_fits i c.in_ok-found.found.hits c.in_ok-found.found.range fits.base fits.range) c.show-shown.ensures.held,
+          (counted_fits i c.in_ok-found.found.hits c.in_ok-found.found.range fits.range) c.show-shown.ensures.held,
     )
 
 pub returns-clause-told : goal.returns-clause-told

@@ -83,6 +83,9 @@ returns-in_err-found-3-clause-reads g c =
     let less = last_hits_less v c.requires.over.opened.source c.in_ok-hits.hits (last_of (out-Query c.args.over.query.now).parts) in
     within_both c.hits_of_parts.ensures.reads c.in_err-found-3.ensures.reads (omega (arith, met, less))
 
+pub hits_of_parts-requires-clause-fits : goal.hits_of_parts-requires-clause-fits
+hits_of_parts-requires-clause-fits g c = c.known_hits-known.ensures.fits (seen (g.I.Source.view c.args.over.index.now)) c.requires.held
+
 pub find_last-requires-clause-base : goal.find_last-requires-clause-base
 find_last-requires-clause-base g c =
     let parts = c.as_slice-parts.result.now in
@@ -95,7 +98,8 @@ returns-clause-told g c b is stands held =
     let q = c.args.over.query.now in
     let are = ap (λ (xs : List Part). take (length xs - 1) xs) c.as_slice-parts.ensures in
     c.in_ok-found-3.ensures.told b (c.hits_of_parts.ensures.store.bytes ∙ is) stands held
-    (c.in_ok-hits.ensures.told b is stands (before_last q) (first_parts q _ are))
+    (c.in_ok-hits.ensures.told b is stands (c.known_hits-known.ensures.over ((g.I.Source.view c.args.over.index.now).stock b) held) (before_last q)
+    (first_parts q _ are))
 
 pub returns-clause-reads : goal.returns-clause-reads
 returns-clause-reads g c =

@@ -1,4 +1,4 @@
-use Rattle.std.proofs.Common.{◌*◌, ◌-◌, length, refl, arith}
+use Rattle.std.proofs.Common.{◌*◌, ◌+◌, ◌-◌, length, refl, arith}
 use Rattle.std.specs.Prelude.{filter}
 use Rattle.cs_base.specs.declared.content.limits.TheConstants.{MAX_PARTS}
 use Rattle.cs_base.specs.declared.content.query.Query.{out-Query}
@@ -18,7 +18,7 @@ found_behind-requires-clause-base g c =
     (omega (arith, few)) c.requires.asks.base
 
 pub returns-clause-told : goal.returns-clause-told
-returns-clause-told g c b is stands gathered by many p =
+returns-clause-told g c b is stands gathered files by many p =
     let v = g.I.Source.view c.args.over.index.now in
     let q = c.args.over.query.now in
     let hits = c.args.hits.now in
@@ -27,7 +27,7 @@ returns-clause-told g c b is stands gathered by many p =
     let listed = c.args.listed.now in
     let source = c.requires.over.opened.source in
     let posts = (v.stock b).posts in
-    let found = c.in_ok-found.ensures.told b is stands gathered in
+    let found = c.in_ok-found.ensures.told b is stands gathered files in
     record {
       table = table_counted (found_counts v q hits lo hi c.requires.asks b stands source by _ _ found) c.in_ok-table.ensures.total c.in_ok-table.ensures.first;
       own = tt;
@@ -38,11 +38,18 @@ returns-clause-told g c b is stands gathered by many p =
 
 pub returns-clause-fits : goal.returns-clause-fits
 returns-clause-fits g c =
+    let docs = (g.I.Source.view c.args.over.index.now).docs in
+    let n = length (out-Query c.args.over.query.now).parts in
+    let few = c.requires.over.parts in
+    let some = c.requires.asks.some in
     let high = c.in_ok-found.ensures.words in
     let within = c.requires.asks.within in
+    let found = c.in_ok-found.found in
     record {
-      base = c.in_ok-found.ensures.base;
+      base = base_weaker docs (MAX_ROW_SCORE * (n - 1 + 1)) (MAX_ROW_SCORE * MAX_PARTS) found (omega (arith, few, some))
+          (c.in_ok-found.ensures.base (n - 1) c.requires.asks.base);
       table = table_there _ (omega (arith, high, within)) c.in_ok-table.ensures.known;
       own = tt;
-      range = wide_fits c.args.hits.now c.args.words.0 c.args.words.1 c.in_ok-found.counts _ c.counted_in_all.result c.counted_in_all.ensures (omega (arith, high, within));
+      range = wide_fits c.args.hits.now c.args.words.0 c.args.words.1 c.in_ok-found.counts docs _ found c.counted_in_all.result c.counted_in_all.ensures
+          (omega (arith, high, within)) c.in_ok-found.ensures.base;
     }

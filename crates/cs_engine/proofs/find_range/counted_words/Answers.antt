@@ -1,4 +1,4 @@
-use Rattle.std.proofs.Common.{subst}
+use Rattle.std.proofs.Common.{subst, arith}
 use Rattle.cs_engine.specs.declared.held.HeldKind.TheVariants as kinds
 use Rattle.cs_engine.specs.HeldRanges.{FitsHolding, FitsRange, IsHeldOver, IsHoldingOver}
 use Rattle.cs_rows.specs.Sources.{seen}
@@ -30,3 +30,9 @@ returns-in_err-found-clause-held g c = goes_by c.take.result c.args.words.0 c.ar
 
 pub returns-clause-held : goal.returns-clause-held
 returns-clause-held g c = goes_by c.take.result c.args.words.0 c.args.words.1 kinds.Counted c.take.ensures.none c.take.ensures.some
+
+pub returns-clause-words : goal.returns-clause-words
+returns-clause-words g c =
+    let high = c.in_ok-found.ensures.words in
+    let within = c.requires.words.within in
+    omega (arith, high, within)

@@ -1,4 +1,7 @@
-use Rattle.std.proofs.Common.{arith}
+use Rattle.std.proofs.Common.{◌*◌, arith}
+use Rattle.cs_base.specs.declared.content.limits.TheConstants.{MAX_PARTS}
+use Rattle.cs_base.specs.declared.content.scores.TheConstants.{MAX_ROW_SCORE}
+use Rattle.cs_rows.proofs.PartSteps.{base_weaker}
 use Rattle.cs_engine.proofs.LooseLemmas.{table_counted, table_there}
 use Rattle.cs_engine.proofs.WideLemmas.{range_counts, too_large, wide_held}
 use Rattle.cs_engine.proofs.find_range.find_range.Goals as goal
@@ -18,9 +21,10 @@ returns-clause-told g c b is stands held p =
 
 pub returns-clause-fits : goal.returns-clause-fits
 returns-clause-fits g c =
-    let high = c.in_ok-hits.ensures.words in record {
-      base = c.in_ok-hits.ensures.base;
+    let high = c.in_ok-hits.ensures.words in
+    let base = c.in_ok-hits.ensures.base in record {
+      base = base_weaker (g.I.Source.view c.args.over.index.now).docs MAX_ROW_SCORE (MAX_ROW_SCORE * MAX_PARTS) c.in_ok-hits.hits (omega arith) base;
       table = table_there _ (omega (arith, high)) c.in_ok-table.ensures.known;
       own = tt;
-      range = high;
+      range = (high, base);
     }

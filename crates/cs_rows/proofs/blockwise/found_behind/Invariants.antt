@@ -1,4 +1,7 @@
 use Rattle.std.proofs.Common.{◌≡◌, Some, length}
+use Rattle.std.specs.List.{All}
+use Rattle.std.specs.Option.{ForSome}
+use Rattle.cs_file.specs.BlockBytes.{FitsBlock, HasFileBytes}
 use Rattle.cs_tables.specs.WordCounts.{HasCounted, is_chosen}
 use Rattle.cs_rows.specs.Counting.{counted_rows}
 use Rattle.cs_rows.specs.BestScores.{HasBestScores}
@@ -16,9 +19,11 @@ invariant-loop-k g l = record {
   high : l.counts.high ≡ l.words.1;
   told : WhereStood (g.S.Store.bytes l.fn.store) (g.I.Source.view l.index).index
       (λ b. HasGathered (g.I.Source.view l.index) (Some b) l.words.0 l.words.1 l.listed l.gathered
-      → HasCounted (counted_rows ((g.I.Source.view l.index).blocks b) l.gathered.first l.k l.words.0 l.words.1 l.listed) l.counts);
+      → All (HasFileBytes b) l.fn.blocks.blocks.items → HasCounted (counted_rows ((g.I.Source.view l.index).blocks b) l.gathered.first l.k l.words.0 l.words.1 l.listed) l.counts);
   scored : WhereStood (g.S.Store.bytes l.fn.store) (g.I.Source.view l.index).index
       (λ b. HasGathered (g.I.Source.view l.index) (Some b) l.words.0 l.words.1 l.listed l.gathered
-      → HasBestScores (run_of ((g.I.Source.view l.index).blocks b) l.gathered.first l.k (is_chosen l.words.0 l.words.1 l.listed)) l.best.items);
+      → All (HasFileBytes b) l.fn.blocks.blocks.items → HasBestScores (run_of ((g.I.Source.view l.index).blocks b) l.gathered.first l.k (is_chosen l.words.0 l.words.1 l.listed)) l.best.items);
   len : length l.best.items ≡ (g.I.Source.view l.index).docs;
+  fit : All (FitsBlock (g.I.Source.view l.index).index) l.blocks.blocks.items;
+  file : ForSome (g.S.Store.bytes l.fn.store) (λ b. All (HasFileBytes b) l.fn.blocks.blocks.items → All (HasFileBytes b) l.blocks.blocks.items);
 }

@@ -88,12 +88,12 @@ loop-k-preserved g c =
       len = c.raise_rows.ensures.len ∙ inv.len;
     }
 
-pub raise_held-requires-clause-known : goal.raise_held-requires-clause-known
-raise_held-requires-clause-known g c =
+pub raise_at_hand-requires-clause-known : goal.raise_at_hand-requires-clause-known
+raise_at_hand-requires-clause-known g c =
     held_known (g.I.Source.view c.args.index.now) c.requires.sieve.opened.source _ _ c.held.result.now c.held.ensures c.loop-k.invariant.len
 
-pub raise_held-requires-clause-long : goal.raise_held-requires-clause-long
-raise_held-requires-clause-long g c = c.requires.sieve.long ∙ sym c.loop-k.invariant.len
+pub raise_at_hand-requires-clause-long : goal.raise_at_hand-requires-clause-long
+raise_at_hand-requires-clause-long g c = c.requires.sieve.long ∙ sym c.loop-k.invariant.len
 
 pub returns-clause-told : goal.returns-clause-told
 returns-clause-told g c b is stands =
@@ -107,9 +107,9 @@ returns-clause-told g c b is stands =
     let done : c.loop-k.k ≡ last = omega (arith, c.loop-k-test.false, c.loop-k.auto.k-end, up) in
     let v = g.I.Source.view c.args.index.now in
     let run = run_of (v.blocks b) first last (is_chosen lo hi listed) in
-    best_found b v stands c.requires.sieve.opened.source lo hi listed first last c.raise_held.new.best.items met
-    (subst (λ h. HasBestScores (run ++ h) c.raise_held.new.best.items) (held_chosen v lo hi listed c.held.result.now c.held.ensures)
-    (c.raise_held.ensures.best run
+    best_found b v stands c.requires.sieve.opened.source lo hi listed first last c.raise_at_hand.new.best.items met
+    (subst (λ h. HasBestScores (run ++ h) c.raise_at_hand.new.best.items) (held_chosen v lo hi listed c.held.result.now c.held.ensures)
+    (c.raise_at_hand.ensures.best run
     (subst (λ k. HasBestScores (run_of (v.blocks b) first k (is_chosen lo hi listed)) c.loop-k.best.items) done (c.loop-k.invariant.scored b is stands))))
 
 pub returns-clause-reads : goal.returns-clause-reads

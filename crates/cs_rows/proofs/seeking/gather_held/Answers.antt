@@ -34,8 +34,8 @@ loop-k-init g c = record {
   walk = hits_begin (hit_blocks c.args.hits.now (g.I.Source.view c.args.index.now).index.heads c.blocks-first.result.0 c.blocks-first.result.0);
   keys = λ told h. no_keys (g.I.Source.view c.args.index.now) told c.blocks-first.result.0
       (is_chosen c.args.words.0 c.args.words.1 c.args.listed.now) c.new-keys.result.items c.new-keys.ensures.items;
-  fit = c.add_places.ensures.fit (g.I.Source.view c.args.index.now).index c.requires.fit;
-  file = λ b is. c.add_places.ensures.file b;
+  fit = c.reach.ensures.fit (g.I.Source.view c.args.index.now).index c.requires.fit;
+  file = λ b is. c.reach.ensures.file b;
 }
 
 pub head-requires : goal.head-requires
@@ -82,8 +82,8 @@ pub pack-requires : goal.pack-requires
 pack-requires g c =
     let v = g.I.Source.view c.args.index.now in
     let from = c.in_ok-seek_in.ensures.rows None (λ b is. absurd (none-some b is)) in
-    subst (λ (w : Weights). All (IsPacked w) c.deref-in-loop-k.result.now) (sym c.weights-weights.ensures)
-    (subst (All (IsPacked v.index.weights)) (sym c.deref-in-loop-k.ensures.value) from.packed)
+    subst (λ (w : Weights). All (IsPacked w) c.deref.result.now) (sym c.weights-weights.ensures)
+    (subst (All (IsPacked v.index.weights)) (sym c.deref.ensures.value) from.packed)
 
 pub returns-in_err-pack-clause-reads : goal.returns-in_err-pack-clause-reads
 returns-in_err-pack-clause-reads g c =
@@ -105,8 +105,8 @@ loop-k-preserved g c =
     let read = c.in_ok-seek_in.ensures in
     let old = c.loop-k.keys.items in
     let posts = c.seek_in.new.sought.posts.items in
-    let added = c.in_ok-pack.ensures ∙ ap (λ (w : Weights). old ++ map (key_of w) c.deref-in-loop-k.result.now) c.weights-weights.ensures
-    ∙ ap (λ (ps : List Post). old ++ map (key_of v.index.weights) ps) c.deref-in-loop-k.ensures.value in
+    let added = c.in_ok-pack.ensures ∙ ap (λ (w : Weights). old ++ map (key_of w) c.deref.result.now) c.weights-weights.ensures
+    ∙ ap (λ (ps : List Post). old ++ map (key_of v.index.weights) ps) c.deref.ensures.value in
     let below : c.loop-k.k < length v.index.heads = omega (arith, c.blocks-first.ensures.within, c.loop-k-test.true) in
     let one = read_where hits v.index.heads c.loop-k.k (ap (may_hit hits) (sym c.head.ensures) ∙ sym c.may_hit.ensures ∙ c.if-not-may_hit.false) in
     let on = next_block hits v.index.heads c.blocks-first.result.0 c.loop-k.k c.loop-k.auto.k below in

@@ -12,8 +12,8 @@ abbrev pub invariant-loop-k : goal.invariant-loop-k
 invariant-loop-k g l = record {
   walk : HitWalk g.S.Store.bytes g.S.Store.lent g.S.Store.faults g.S.Store.reads (g.I.Source.view l.index).index l.fn.store l.store
       (hit_blocks l.hits (g.I.Source.view l.index).index.heads l.first l.k);
-  keys : (told : Option (List ℕ)) → ForSome told (λ b. (g.S.Store.bytes l.fn.store ≡ Some b) × All (HasFileBytes b) l.fn.blocks.items)
+  keys : (told : Option (List ℕ)) → ForSome told (λ b. (g.S.Store.bytes l.fn.store ≡ Some b) × All (HasFileBytes b) l.fn.blocks.blocks.items)
       → HasKeys (g.I.Source.view l.index) told l.first l.k (is_chosen l.words.0 l.words.1 l.listed) l.keys.items;
-  fit : All (FitsBlock (g.I.Source.view l.index).index) l.blocks.items;
-  file : ForSome (g.S.Store.bytes l.fn.store) (λ b. All (HasFileBytes b) l.fn.blocks.items → All (HasFileBytes b) l.blocks.items);
+  fit : All (FitsBlock (g.I.Source.view l.index).index) l.blocks.blocks.items;
+  file : ForSome (g.S.Store.bytes l.fn.store) (λ b. All (HasFileBytes b) l.fn.blocks.blocks.items → All (HasFileBytes b) l.blocks.blocks.items);
 }

@@ -30,7 +30,7 @@ pub loop-part-init : goal.loop-part-init
 loop-part-init g c = record {
   walk = list_begins refl refl;
   within = tt;
-  told = λ b is stands. refl;
+  told = λ b is stands known. refl;
 }
 
 -- ---- behind parts that leave no hit
@@ -44,38 +44,39 @@ loop-part-preserved-then-lists_none g c =
     record {
       walk = list_skips inv.walk c.loop-part-test.true c.part-item.is;
       within = subst (IsBaseOf v.docs (MAX_ROW_SCORE * (n + 1))) (sym none) (none_based v.docs (MAX_ROW_SCORE * (n + 1)));
-      told = λ b is stands.
+      told = λ b is stands known.
           let s = v.stock b in
           let p = rows_of_part (corpus_in s) x in
-          hits_go_on s c.args.parts.now n x c.loop-part-test.true c.part-item.is c.loop-part.hits c.loop-part.hits (inv.told b is stands)
+          hits_go_on s c.args.parts.now n x c.loop-part-test.true c.part-item.is c.loop-part.hits c.loop-part.hits (inv.told b is stands known)
           (subst (λ h. AreHitsBehind s h p h) (sym none) (none_behind s p));
     }
 
 -- ---- a part that asks for some words
-pub hits_by_words-requires-clause-base : goal.hits_by_words-requires-clause-base
-hits_by_words-requires-clause-base g c = of_most _ _ _ _ c.requires.few c.loop-part-test.true c.loop-part.invariant.within
+pub hits_in_words-requires-clause-base : goal.hits_in_words-requires-clause-base
+hits_in_words-requires-clause-base g c = of_most _ _ _ _ c.requires.few c.loop-part-test.true c.loop-part.invariant.within
 
-pub returns-in_err-scored-clause-reads : goal.returns-in_err-scored-clause-reads
-returns-in_err-scored-clause-reads g c =
-    list_stops c.loop-part.invariant.walk c.loop-part-test.true c.part-item.is (within_more c.hits_by_words.ensures.reads
+pub returns-in_err-hits-clause-reads : goal.returns-in_err-hits-clause-reads
+returns-in_err-hits-clause-reads g c =
+    list_stops c.loop-part.invariant.walk c.loop-part-test.true c.part-item.is (within_more c.hits_in_words.ensures.reads
     (let sharp = c.in-Some.ensures.sharp c.loop-part.hits in let less = hits_less (g.I.Source.view c.args.index.now) c.requires.opened.source c.loop-part.hits c.part-item.result in omega (arith, sharp, less)))
 
 pub loop-part-preserved-in-Some : goal.loop-part-preserved-in-Some
 loop-part-preserved-in-Some g c =
+    let v = g.I.Source.view c.args.index.now in
     let n = c.loop-part.part-index in
     let inv = c.loop-part.invariant in
     let hits = c.loop-part.hits in
     let words = c.in-Some.words in
-    let next = c.in_ok-scored in
+    let next = c.in_ok-hits in
     record {
       walk = list_goes_on inv.walk c.loop-part-test.true c.part-item.is next.ensures.store (within_more next.ensures.reads
-          (let sharp = c.in-Some.ensures.sharp hits in let less = hits_less (g.I.Source.view c.args.index.now) c.requires.opened.source hits c.part-item.result in omega (arith, sharp, less)));
+          (let sharp = c.in-Some.ensures.sharp hits in let less = hits_less v c.requires.opened.source hits c.part-item.result in omega (arith, sharp, less)));
       within = next.ensures.within n inv.within;
-      told = λ b is stands. hits_go_on ((g.I.Source.view c.args.index.now).stock b) c.args.parts.now n c.part-item.result c.loop-part-test.true
-          c.part-item.is hits
-          (base.Listed next.scored) (inv.told b is stands)
-          (behind_words b (g.I.Source.view c.args.index.now) stands c.requires.opened.source c.part-item.result hits words.0 words.1 next.scored
-          c.in-Some.ensures.positive c.in-Some.ensures.words (next.ensures.told b (inv.walk.store.bytes ∙ is) stands));
+      told = λ b is stands known. hits_go_on (v.stock b) c.args.parts.now n c.part-item.result c.loop-part-test.true
+          c.part-item.is hits next.hits (inv.told b is stands known)
+          (subst (λ h. AreHitsBehind (v.stock b) hits (rows_of_part (corpus_in (v.stock b)) c.part-item.result) h)
+          (sym (next.ensures.told b (inv.walk.store.bytes ∙ is) stands known))
+          (behind_words b v stands c.requires.opened.source c.part-item.result hits words.0 words.1 _ c.in-Some.ensures.positive c.in-Some.ensures.words refl));
     }
 
 -- ---- another part
@@ -86,8 +87,8 @@ pub returns-in_err-entry-clause-reads : goal.returns-in_err-entry-clause-reads
 returns-in_err-entry-clause-reads g c = list_stops c.loop-part.invariant.walk c.loop-part-test.true c.part-item.is (within_more c.extended_entry.ensures.reads
     (hits_less (g.I.Source.view c.args.index.now) c.requires.opened.source c.loop-part.hits c.part-item.result))
 
-pub returns-in_err-hits-clause-reads : goal.returns-in_err-hits-clause-reads
-returns-in_err-hits-clause-reads g c = list_stops c.loop-part.invariant.walk c.loop-part-test.true c.part-item.is (within_more c.extended_entry.ensures.reads
+pub returns-in_err-hits-2-clause-reads : goal.returns-in_err-hits-2-clause-reads
+returns-in_err-hits-2-clause-reads g c = list_stops c.loop-part.invariant.walk c.loop-part-test.true c.part-item.is (within_more c.extended_entry.ensures.reads
     (hits_less (g.I.Source.view c.args.index.now) c.requires.opened.source c.loop-part.hits c.part-item.result))
 
 pub posts_hits-requires-clause-base : goal.posts_hits-requires-clause-base
@@ -111,14 +112,14 @@ loop-part-preserved g c =
     let x = c.part-item.result in
     let positive = not (out-Part x).excluded in
     let e = c.in_ok-entry.entry in
-    let are : c.in_ok-hits.hits ≡ posts_hits positive e.base e.rows =
-    c.in_ok-hits.ensures ∙ ap (λ (x : EntryOf Post). posts_hits positive x.base x.rows) c.entry.view_is in
+    let are : c.in_ok-hits-2.hits ≡ posts_hits positive e.base e.rows =
+    c.in_ok-hits-2.ensures ∙ ap (λ (x : EntryOf Post). posts_hits positive x.base x.rows) c.entry.view_is in
     record {
       walk = list_goes_on inv.walk c.loop-part-test.true c.part-item.is c.in_ok-entry.ensures.store (within_more c.in_ok-entry.ensures.reads
           (hits_less (g.I.Source.view c.args.index.now) c.requires.opened.source c.loop-part.hits x));
       within = subst (IsBaseOf i.docs (MAX_ROW_SCORE * (n + 1))) (sym are) (hits_in i positive (n + 1) e (c.in_ok-entry.ensures.within n inv.within));
-      told = λ b is stands. hits_go_on ((g.I.Source.view c.args.index.now).stock b) c.args.parts.now n x c.loop-part-test.true c.part-item.is c.loop-part.hits
-          c.in_ok-hits.hits (inv.told b is stands) (record {
+      told = λ b is stands known. hits_go_on ((g.I.Source.view c.args.index.now).stock b) c.args.parts.now n x c.loop-part-test.true c.part-item.is c.loop-part.hits
+          c.in_ok-hits-2.hits (inv.told b is stands known) (record {
             e = e;
             step = c.in_ok-entry.ensures.told b (inv.walk.store.bytes ∙ is) stands;
             are = are ∙ ap (λ x. posts_hits (not x) e.base e.rows) (sym (is_excluded ((g.I.Source.view c.args.index.now).stock b) x));
@@ -127,9 +128,9 @@ loop-part-preserved g c =
 
 -- ---- all parts
 pub returns-clause-told : goal.returns-clause-told
-returns-clause-told g c b is stands q are = hits_end ((g.I.Source.view c.args.index.now).stock b) c.args.parts.now q c.loop-part.part-index
+returns-clause-told g c b is stands known q are = hits_end ((g.I.Source.view c.args.index.now).stock b) c.args.parts.now q c.loop-part.part-index
     c.loop-part.hits are
-    (omega (arith, c.loop-part-test.false)) (c.loop-part.invariant.told b is stands)
+    (omega (arith, c.loop-part-test.false)) (c.loop-part.invariant.told b is stands known)
 
 pub returns-clause-within : goal.returns-clause-within
 returns-clause-within g c =

@@ -2,7 +2,7 @@ use Rattle.std.proofs.Common.{ℕ, List}
 use Rattle.std.specs.List.{All}
 use Rattle.cs_file.specs.Indexes.{IndexView}
 use Rattle.cs_file.specs.BlockBytes.{FitsBlock, HasFileBytes}
-use Rattle.cs_rows.proofs.seeking.add_places.Given as goal
+use Rattle.cs_rows.proofs.read_blocks.add_places.Given as goal
 
 abbrev pub invariant-loop : goal.invariant-loop
 invariant-loop l = record {
