@@ -22,6 +22,8 @@ import time
 ROOT = pathlib.Path(__file__).resolve().parent.parent
 PAPERS = (ROOT / "examples" / "papers.tsv").read_bytes().splitlines(keepends=True)
 REPLICAS, CLIENTS, SECONDS = 3, 8, 10
+# In it nginx learns that the connections which it kept to a server are gone.
+PAUSE = 1
 QUERIES = ["q=&h=0&c=0", "q=typ&f=author,year&h=100", "q=a&h=100&c=100", "q=index+se"]
 
 
@@ -112,6 +114,7 @@ def rounds(program, folder, index, cuts, replicas, clients):
         for replica in replicas:
             replica.end()
             replica.start()
+            time.sleep(PAUSE)
         clients.least = end
         time.sleep(0.5)
 
