@@ -21,7 +21,7 @@ use crate::replies::{bare_facets, shown_words};
 use cs_base::{Base, Memory, Scored, Seq, Store, Text};
 use cs_file::FetchFault;
 use cs_query::{FacetShown, HitShown, Reply, Request};
-use cs_rows::{Source, first_hits, listed_docs, lists_none, span_of_facet};
+use cs_rows::{Source, first_hits, listed_docs, lists_none, range_of_facet};
 use cs_tables::Table;
 use std::alloc::{AllocError, Global};
 
@@ -143,7 +143,7 @@ fn are_bare<I: Source>(
         return Ok(true);
     }
     for name in names {
-        let words = span_of_facet(alloc, index, name)?;
+        let words = range_of_facet(alloc, index, name)?;
         if words.0 < words.1 {
             return Ok(false);
         }
@@ -179,7 +179,7 @@ fn shown_facet<I: Source, S: Store>(
         index,
         request,
     } = over;
-    let words = span_of_facet(alloc, index, name)?;
+    let words = range_of_facet(alloc, index, name)?;
     let counts = counted_facet(alloc, index, store, words, base, listed, held)?;
     let table = counts.table(alloc, request.completions)?;
     let shown = shown_words(alloc, index, table.first.as_slice())?;

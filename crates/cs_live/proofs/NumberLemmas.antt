@@ -6,7 +6,7 @@
 --   rank_within, rank_up, rank_step    it isn't above their number, rises, and rises by one at most for the next number
 --   own_numbers          as many words as the index has are its own, each with its own number
 --   between_by           being between two numbers is being between their ranks
---   old_range, old_span  the range or the span of words of the index
+--   old_range, old_asked  the range or the span of words of the index
 --   old_met_prefix, old_met_word    how many blocks hold them
 use Rattle.std.proofs.Common.{◌≡◌, ℕ, zero, suc, ◌+◌, ◌<◌, ◌≤◌, ◌&&◌, Bool, true, false, cond, List, [], ◌∷◌, length, get_or}
 use Rattle.std.proofs.Common.{refl, sym, ap, subst, ◌∙◌, arith, inl, inr}
@@ -24,7 +24,7 @@ use Rattle.std.proofs.lemmas.Map.Keys.{Less-from_sorted}
 use Rattle.cs_base.specs.content.Orders.{AreDocs}
 use Rattle.cs_base.proofs.MembersLemmas.{all_then}
 use Rattle.cs_base.proofs.NameMaps.{name_sym}
-use Rattle.cs_rows.specs.IndexReading.{division, IsSpanOf}
+use Rattle.cs_rows.specs.IndexReading.{division, IsRangeOf}
 use Rattle.cs_rows.proofs.AskedWords.{prefix_met, word_met}
 use Rattle.cs_file.specs.Indexes.{IndexView, IsIndex, is_met}
 use Rattle.cs_merge.specs.Vocabularies.{IsShift}
@@ -198,8 +198,8 @@ module _ (i : IndexView) (words : List (List ℕ)) (shift : List ℕ) (is : IsSh
             ap (begins p) (sym (is.same n lt)) ∙ range.holds (get_or shift n 0) (is.below n 0 (known_word n lt)) ∙ new_between lo hi n lt;
       }
 
-  pub old_span : (test : List ℕ → Bool) (lo hi : ℕ) → IsSpanOf words test lo hi → IsSpanOf i.words test (rank shift lo) (rank shift hi)
-  old_span test lo hi span =
+  pub old_asked : (test : List ℕ → Bool) (lo hi : ℕ) → IsRangeOf words test lo hi → IsRangeOf i.words test (rank shift lo) (rank shift hi)
+  old_asked test lo hi span =
       let long = is.long in
       let le = rank_within shift hi in
       record {
@@ -214,7 +214,7 @@ module _ (i : IndexView) (words : List (List ℕ)) (shift : List ℕ) (is : IsSh
   old_met_prefix index p lo hi range = prefix_met i index p (rank shift lo) (rank shift hi) (old_range p lo hi range)
 
   -- a word that the index hasn't has no number there
-  old_none : (w : List ℕ) (lo hi : ℕ) → IsSpanOf words (λ x. bytes_eq x w) lo hi → list_any (bytes_eq w) i.words ≡ false → rank shift lo ≡ rank shift hi
+  old_none : (w : List ℕ) (lo hi : ℕ) → IsRangeOf words (λ x. bytes_eq x w) lo hi → list_any (bytes_eq w) i.words ≡ false → rank shift lo ≡ rank shift hi
   old_none w lo hi span none =
       let up = rank_up shift lo hi span.ordered in
       elim (cases_lt (rank shift lo) (rank shift hi)) [
@@ -233,7 +233,7 @@ module _ (i : IndexView) (words : List (List ℕ)) (shift : List ℕ) (is : IsSh
       first_of : (n hi : ℕ) → n < hi → (nat_le n n && nat_lt n hi) ≡ true
       first_of n hi lt = grind (arith, nat_tests)
 
-  pub old_met_word : IsIndex i → (w : List ℕ) (lo hi : ℕ) → IsSpanOf words (λ x. bytes_eq x w) lo hi → hi ≤ lo + 1
+  pub old_met_word : IsIndex i → (w : List ℕ) (lo hi : ℕ) → IsRangeOf words (λ x. bytes_eq x w) lo hi → hi ≤ lo + 1
       → length (filter (is_met (rank shift lo) (rank shift hi)) i.heads) ≤ met_word (division i) w
   old_met_word index w lo hi span short =
       let up = rank_up shift hi (lo + 1) short in

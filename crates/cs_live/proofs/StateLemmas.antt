@@ -47,7 +47,7 @@ use Rattle.cs_rows.proofs.OpenedLemmas.{opened_told}
 use Rattle.cs_rows.proofs.StockLemmas.{docs_are, score_fits, stocked}
 use Rattle.cs_live.specs.States.{IsState, StateView, now_posts, rank, renumbered, source_now, stock_now, titles_now}
 use Rattle.cs_live.proofs.ByWordLemmas.{all_by, any_by, countable_by, swapped}
-use Rattle.cs_live.proofs.NumberLemmas.{known_word, old_met_prefix, old_met_word, old_range, old_span, rank_step}
+use Rattle.cs_live.proofs.NumberLemmas.{known_word, old_met_prefix, old_met_word, old_range, old_asked, rank_step}
 use Rattle.cs_live.proofs.NowLemmas.{all_now, between_now, block_now, chosen_now, dropped_parts, drop_map, flat_parts, flat_same, flat_through, now_flat, now_pieces, now_rises, sorted_behind}
 use Rattle.cs_live.proofs.NowLemmas.{take_map, taken_parts}
 use Rattle.cs_live.proofs.PresentTitles.{titled_docs, titled_there}
@@ -316,7 +316,7 @@ module _ (s : StateView) (is : IsState s) where
         let old = old_range s.index s.words s.shift is.shift p lo hi range in
         met_holds s.index is.index (begins p) (rank s.shift lo) (rank s.shift hi) old.holds old.within;
     word_held = λ w lo hi span.
-        let old = old_span s.index s.words s.shift is.shift (λ x. bytes_eq x w) lo hi span in
+        let old = old_asked s.index s.words s.shift is.shift (λ x. bytes_eq x w) lo hi span in
         met_holds s.index is.index (λ x. bytes_eq x w) (rank s.shift lo) (rank s.shift hi) old.holds old.within;
     told = state_told;
   }

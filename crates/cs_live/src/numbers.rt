@@ -3,7 +3,7 @@ ghost use Rattle.std.specs.Prelude.{◌≡◌, ◌≤◌, ◌+◌, false, true, 
 ghost use Rattle.std.specs.{List.{list_any}, List.Sorted.{IsStrictlySortedBy}, Ordering.{nat_cmp}, Cmp.Lexicographic.{slice_cmp}, Str.{bytes_eq}};
 ghost use Rattle.cs_base.specs.content.Orders.{AreDocs};
 ghost use Rattle.cs_base.specs.declared.content.limits.TheConstants.{MAX_WORDS};
-ghost use Rattle.cs_rows.specs.IndexReading.{IsSpanOf};
+ghost use Rattle.cs_rows.specs.IndexReading.{IsRangeOf};
 ghost use Rattle.cs_live.specs.States.{rank};
 
 use cs_vocab::Vocab;
@@ -44,11 +44,11 @@ pub(crate) fn has_own_words(words: &Vocab, shift: &[u32]) -> bool
 }
 
 /// The number of a word and the next one, or an empty range.
-pub(crate) fn own_span(words: &Vocab, word: &[u8]) -> (u32, u32)
+pub(crate) fn own_range(words: &Vocab, word: &[u8]) -> (u32, u32)
     requires ascending { IsStrictlySortedBy (slice_cmp nat_cmp) words.now }
     requires few { length words.now ≤ MAX_WORDS }
 
-    ensures span { IsSpanOf words.now (λ v. bytes_eq v word.now) result.0 result.1 }
+    ensures range { IsRangeOf words.now (λ v. bytes_eq v word.now) result.0 result.1 }
     ensures short { result.1 ≤ result.0 + 1 }
     ensures none { list_any (bytes_eq word.now) words.now ≡ false → result.0 ≡ result.1 }
 {

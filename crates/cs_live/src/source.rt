@@ -7,7 +7,7 @@ ghost use Rattle.cs_rows.specs.Sources.{IsSource, seen};
 ghost use Rattle.cs_rows.specs.Sources.{source_of as opened_source};
 ghost use Rattle.cs_live.specs.States.{source_now};
 
-use crate::numbers::{old_words, own_span};
+use crate::numbers::{old_words, own_range};
 use crate::rows::{fetch_now, fetch_scored_now, seek_now};
 use crate::rows_by_word::rows_of_words;
 use crate::state::State;
@@ -47,8 +47,8 @@ impl Source for State {
         self.words.range(p)
     }
 
-    fn span_of_word(&self, word: &[u8]) -> (u32, u32) {
-        own_span(&self.words, word)
+    fn range_of_word(&self, word: &[u8]) -> (u32, u32) {
+        own_range(&self.words, word)
     }
 
     fn word(&self, n: u32) -> &[u8] {

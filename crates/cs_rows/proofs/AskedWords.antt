@@ -1,6 +1,6 @@
 -- The words that an atom asks for, and the blocks that hold them.
 --
---   word_span, no_span      a word that is there, and one that isn't
+--   range_there, no_range      a word that is there, and one that isn't
 --   filter_less             what passes another test too is no less
 --   met_holds               each block that is met for some words holds one of them
 --   prefix_met, word_met    how many blocks hold such words
@@ -19,17 +19,17 @@ use Rattle.cs_file.proofs.HeadsLemmas.{head_filled, head_within, heads_rise}
 use Rattle.cs_model.specs.Answers.{begins}
 use Rattle.cs_model_kept.specs.Due.{block_words, met_prefix, met_word}
 use Rattle.cs_vocab.specs.Ranges.{IsWordAt, IsRange}
-use Rattle.cs_rows.specs.IndexReading.{division, IsSpanOf}
+use Rattle.cs_rows.specs.IndexReading.{division, IsRangeOf}
 use Rattle.cs_rows.specs.Stocked.{HoldsBetween}
 use Rattle.cs_model_index.specs.Numbered.{word_at}
 use Rattle.cs_rows.proofs.AtomsLemmas.{span_word, span_none}
 
 -- ---- spans
-pub word_span : (i : IndexView) → IsIndex i → (n : ℕ) (w : List ℕ) → IsWordAt i.words n w → IsSpanOf i.words (λ v. bytes_eq v w) n (n + 1)
-word_span i is n w at = record { ordered = omega arith; within = omega (arith, at.0); holds = span_word i.words is.ascending n w at }
+pub range_there : (i : IndexView) → IsIndex i → (n : ℕ) (w : List ℕ) → IsWordAt i.words n w → IsRangeOf i.words (λ v. bytes_eq v w) n (n + 1)
+range_there i is n w at = record { ordered = omega arith; within = omega (arith, at.0); holds = span_word i.words is.ascending n w at }
 
-pub no_span : (ws : List (List ℕ)) (w : List ℕ) → list_any (bytes_eq w) ws ≡ false → IsSpanOf ws (λ v. bytes_eq v w) 0 0
-no_span ws w none = record { ordered = omega arith; within = omega arith; holds = span_none ws w none }
+pub no_range : (ws : List (List ℕ)) (w : List ℕ) → list_any (bytes_eq w) ws ≡ false → IsRangeOf ws (λ v. bytes_eq v w) 0 0
+no_range ws w none = record { ordered = omega arith; within = omega arith; holds = span_none ws w none }
 
 pub word_there : (ws : List (List ℕ)) (n : ℕ) (w : List ℕ) → IsWordAt ws n w → list_any (bytes_eq w) ws ≡ true
 word_there ws n w at = list_any_at (bytes_eq w) ws n [] at.0 (ap (bytes_eq w) at.1 ∙ name_itself w)

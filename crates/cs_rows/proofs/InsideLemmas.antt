@@ -46,7 +46,7 @@ use Rattle.cs_model_kept.specs.Due.{Division, atom_met, block_words, chain_met, 
 use Rattle.cs_model_kept.specs.Sharp.{IsDivided, has_hit, sharp_of, sharp_of_atom, sharp_open}
 use Rattle.cs_model_kept.proofs.SharpLemmas.{facets_less, part_less}
 use Rattle.cs_vocab.specs.Ranges.{IsRange}
-use Rattle.cs_rows.specs.IndexReading.{division, HasRows, IsSpanOf}
+use Rattle.cs_rows.specs.IndexReading.{division, HasRows, IsRangeOf}
 use Rattle.cs_rows.specs.Counting.{in_listed}
 use Rattle.cs_rows.specs.Packing.{IsOrdered}
 use Rattle.cs_rows.specs.Plain.{AreSharp, AreWordsOf}
@@ -144,7 +144,7 @@ module _ (v : SourceView) (is : IsSource v) where
       subst (λ n. hit_met v (base.Listed hs) lo hi ≤ n) (sym (of_prefix (division v.index) (hit_docs hs) a bytes (a_is ∙ ap Prefix (sym same))))
       (sharp_met v (hit_docs hs) hs lo hi (begins bytes) refl (is.prefix_held bytes lo hi range))
 
-  pub exact_sharp : (a : Atom) (w bytes : List ℕ) (lo hi : ℕ) → a ≡ Exact w → bytes ≡ w → IsSpanOf v.words (λ x. bytes_eq x bytes) lo hi
+  pub exact_sharp : (a : Atom) (w bytes : List ℕ) (lo hi : ℕ) → a ≡ Exact w → bytes ≡ w → IsRangeOf v.words (λ x. bytes_eq x bytes) lo hi
       → met_in v lo hi ≤ met_of_atom (division v.index) a → AreSharp v (λ b. hit_of_atom (division v.index) b a) lo hi
   exact_sharp a w bytes lo hi a_is same span few base.All = (let all = all_reach v lo hi in omega (arith, all, few))
   exact_sharp a w bytes lo hi a_is same span few (base.Listed hs) =

@@ -30,7 +30,7 @@ use Rattle.cs_model_kept.specs.Due.{met_of_atom, met_of_query, met_prefix}
 use Rattle.cs_model_kept.proofs.DueLemmas.{met_exact_atom, met_prefix_atom}
 use Rattle.cs_model_index.specs.Numbered.{rows_at}
 use Rattle.cs_vocab.specs.Ranges.{IsRange}
-use Rattle.cs_rows.specs.IndexReading.{division, AreWithin, HasRows, IsSpanOf}
+use Rattle.cs_rows.specs.IndexReading.{division, AreWithin, HasRows, IsRangeOf}
 use Rattle.cs_rows.specs.Counting.{AreListed, in_listed}
 use Rattle.cs_rows.specs.Plain.{AreWordsOf}
 use Rattle.cs_rows.specs.Steps.{entry_with, EntryFits, IsBaseOf, is_in_base}
@@ -72,7 +72,7 @@ prefix_words v is a p bytes lo hi a_is same range = record {
 }
 
 pub exact_words : (v : SourceView) → IsSource v → (a : Atom) (w bytes : List ℕ) (lo hi : ℕ) → a ≡ Exact w → bytes ≡ w
-    → IsSpanOf v.words (λ x. bytes_eq x bytes) lo hi → hi ≤ lo + 1 → (list_any (bytes_eq bytes) v.words ≡ false → lo ≡ hi)
+    → IsRangeOf v.words (λ x. bytes_eq x bytes) lo hi → hi ≤ lo + 1 → (list_any (bytes_eq bytes) v.words ≡ false → lo ≡ hi)
     → AreWordsOf v (met_of_atom (division v.index) a) (λ k. rows_of_atom k a) lo hi
 exact_words v is a w bytes lo hi a_is same span short none =
     let own : a ≡ Exact bytes = a_is ∙ ap Exact (sym same) in

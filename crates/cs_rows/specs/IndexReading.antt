@@ -15,7 +15,7 @@
 --   AreWithin i posts           posts in order, in the range of an index
 --   HasRows s rows posts        posts of the stock that stand for these rows
 --   run_of blocks first last t  the posts that pass a test in the blocks from number first up to last, one block behind the other
---   IsSpanOf ws test lo hi      the words that pass a test are those from lo up to hi, both within the vocabulary
+--   IsRangeOf ws test lo hi      the words that pass a test are those from lo up to hi, both within the vocabulary
 use Rattle.std.specs.Prelude.{◌≡◌, ℕ, ◌-◌, ◌≤◌, ◌<◌, ◌⊎◌, Bool, List, length, take, drop, filter, flat_map, Option, Result}
 use Rattle.std.specs.List.{All}
 use Rattle.std.specs.Option.{ForSome}
@@ -101,7 +101,7 @@ abbrev pub run_of : List (List Post) → ℕ → ℕ → (Post → Bool) → Lis
 run_of blocks first last t = flat_map (filter t) (take (last - first) (drop first blocks))
 
 -- where no word passes, lo is hi or more
-pub record IsSpanOf (ws : List (List ℕ)) (test : List ℕ → Bool) (lo hi : ℕ) : Type 0 where
+pub record IsRangeOf (ws : List (List ℕ)) (test : List ℕ → Bool) (lo hi : ℕ) : Type 0 where
   pub ordered : lo ≤ hi
   pub within : hi ≤ length ws
   pub holds : HoldsBetween ws test lo hi

@@ -35,7 +35,7 @@ use Rattle.cs_model_kept.specs.Due.{block_words, met_prefix, met_word}
 use Rattle.cs_model_kept.specs.Sharp.{lies_in}
 use Rattle.cs_tables.specs.WordCounts.{AreCountable, is_chosen}
 use Rattle.cs_vocab.specs.Ranges.{IsRange}
-use Rattle.cs_rows.specs.IndexReading.{division, IsSpanOf, stock_of}
+use Rattle.cs_rows.specs.IndexReading.{division, IsRangeOf, stock_of}
 use Rattle.cs_rows.specs.Counting.{counted_rows}
 use Rattle.cs_rows.specs.Stocked.{IsStocked, Stock, stock_docs, is_between, present_docs}
 
@@ -134,10 +134,10 @@ pub record IsSource (v : SourceView) : Type 0 where
   pub texts : All IsUtf8 v.words
   pub held : All (IsIn v) v.held
   pub prefix_met : (p : List ℕ) (lo hi : ℕ) → IsRange v.words p lo hi → met_in v lo hi ≤ met_prefix (division v.index) p
-  pub word_met : (w : List ℕ) (lo hi : ℕ) → IsSpanOf v.words (λ x. bytes_eq x w) lo hi → hi ≤ lo + 1 → (list_any (bytes_eq w) v.words ≡ false → lo ≡ hi)
+  pub word_met : (w : List ℕ) (lo hi : ℕ) → IsRangeOf v.words (λ x. bytes_eq x w) lo hi → hi ≤ lo + 1 → (list_any (bytes_eq w) v.words ≡ false → lo ≡ hi)
       → met_in v lo hi ≤ met_word (division v.index) w
   pub prefix_held : (p : List ℕ) (lo hi : ℕ) → IsRange v.words p lo hi → HoldMet v lo hi (begins p)
-  pub word_held : (w : List ℕ) (lo hi : ℕ) → IsSpanOf v.words (λ x. bytes_eq x w) lo hi → HoldMet v lo hi (λ x. bytes_eq x w)
+  pub word_held : (w : List ℕ) (lo hi : ℕ) → IsRangeOf v.words (λ x. bytes_eq x w) lo hi → HoldMet v lo hi (λ x. bytes_eq x w)
   pub told : (b : List ℕ) → StandsFor b v.index → IsTold v b
 
 -- whatever store it was opened over

@@ -11,7 +11,7 @@ use crate::entries::{agreeing, docs_of_base};
 use crate::parts::{add_list, linked_posts, united};
 use crate::reading::rows_between;
 use crate::source::Source;
-use crate::words::span_of_facet;
+use crate::words::range_of_facet;
 use cs_base::{Atom, Base, Chain, Part, Query, Store};
 use cs_cols::Cols;
 use cs_file::FetchFault;
@@ -93,12 +93,12 @@ pub(crate) fn rows_of_atom<I: Source, S: Store>(
             rows_between(alloc, index, store, words)
         }
         Atom::Exact(word) => {
-            let words = index.span_of_word(word.as_str().as_bytes());
+            let words = index.range_of_word(word.as_str().as_bytes());
             rows_between(alloc, index, store, words)
         }
         Atom::Join { name, inner } => {
             let docs = docs_of_hits(alloc, index, store, inner)?;
-            let words = span_of_facet(alloc, index, name)?;
+            let words = range_of_facet(alloc, index, name)?;
             if docs.len() == 0 {
                 return Ok(Cols::new(alloc));
             }

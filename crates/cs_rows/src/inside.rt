@@ -102,7 +102,7 @@ fn rows_in_atom<I: Source, S: Store>(
             rows_in_hits(alloc, index, store, words, hits, listed)
         }
         Atom::Exact(word) => {
-            let words = index.span_of_word(word.as_str().as_bytes());
+            let words = index.range_of_word(word.as_str().as_bytes());
             rows_in_hits(alloc, index, store, words, hits, listed)
         }
         Atom::Join { .. } => {

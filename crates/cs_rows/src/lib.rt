@@ -46,4 +46,4 @@ pub use reading::rows_between;
 pub use seeking::{gather_held, gather_keys};
 pub use source::Source;
 pub use steps::{end_positive, extended_entry, hits_of_parts};
-pub use words::span_of_facet;
+pub use words::range_of_facet;

@@ -3,7 +3,7 @@ ghost use Rattle.cs_rows.specs.Sources.{IsSource, source_of};
 
 use crate::blockwise::are_many;
 use crate::source::Source;
-use crate::words::span_of_word;
+use crate::words::range_of_word;
 use cs_base::{BlockHead, Memory, Post, Store, Text, Weights};
 use cs_file::{FetchFault, Fetched, Index, ReadBlock, Sought};
 use std::alloc::Global;
@@ -38,10 +38,10 @@ impl Source for Index {
         Index::range(self, p)
     }
 
-    fn span_of_word(&self, word: &[u8]) -> (u32, u32) {
+    fn range_of_word(&self, word: &[u8]) -> (u32, u32) {
         // the type of an index says what it keeps where a field of it is read
         let _ = &self.docs;
-        span_of_word(self, word)
+        range_of_word(self, word)
     }
 
     fn word(&self, n: u32) -> &[u8] {

@@ -79,7 +79,7 @@ fn words_of_atom<I: Source>(index: &I, atom: &Atom) -> Option<(u32, u32)>
 {
     match atom {
         Atom::Prefix(prefix) => Some(index.range(prefix.as_str().as_bytes())),
-        Atom::Exact(word) => Some(index.span_of_word(word.as_str().as_bytes())),
+        Atom::Exact(word) => Some(index.range_of_word(word.as_str().as_bytes())),
         Atom::Join { .. } => None,
     }
 }

@@ -1,5 +1,5 @@
 //! The hits of a query and one part more that asks for a range of words: the best score of each document is noted as its rows are read.
-ghost use Rattle.std.specs.Prelude.{◌≡◌, ℕ, ◌+◌, ◌*◌, false, filter, length, IfOk};
+ghost use Rattle.std.specs.Prelude.{◌≡◌, ℕ, ◌+◌, ◌*◌, filter, length, IfOk};
 ghost use Rattle.cs_base.specs.declared.content.doc.Base.TheVariants as base;
 ghost use Rattle.cs_base.specs.{declared.content.limits.TheConstants.{MAX_PARTS}, declared.content.scores.TheConstants.{MAX_ROW_SCORE}};
 ghost use Rattle.cs_base.specs.outside.Causes.{ReadsWithin};

@@ -1,10 +1,10 @@
 //! The numbers of rows of some words, gathered block by block until they are too many: sought in blocks that were read before, or read.
-ghost use Rattle.std.specs.Prelude.{◌≡◌, ◌<◌, ◌≤◌, ◌^◌, ℕ, List, Option, Some, length, IfOk, OnOk};
+ghost use Rattle.std.specs.Prelude.{◌≡◌, ◌<◌, ◌^◌, ℕ, List, Option, Some, length, IfOk, OnOk};
 ghost use Rattle.std.specs.List.{All};
 ghost use Rattle.std.specs.Option.{ForSome};
 ghost use Rattle.cs_base.specs.outside.Causes.{ReadsWithin};
 ghost use Rattle.cs_file.specs.CallAnswers.{IsChangeOfBlock, LeavesStore};
-ghost use Rattle.cs_file.specs.Indexes.{HasAllBlocks, IndexView};
+ghost use Rattle.cs_file.specs.Indexes.{HasAllBlocks};
 ghost use Rattle.cs_file.specs.BlockBytes.{FitsBlock, HasFileBytes};
 ghost use Rattle.cs_tables.specs.WordCounts.{is_chosen};
 ghost use Rattle.cs_rows.specs.GatheredRows.{HasGathered};

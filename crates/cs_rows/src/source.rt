@@ -12,7 +12,7 @@ ghost use Rattle.cs_model_index.specs.Numbered.{word_at};
 ghost use Rattle.cs_tables.specs.WordCounts.{is_chosen};
 ghost use Rattle.cs_vocab.specs.Ranges.{IsRange};
 ghost use Rattle.cs_rows.specs.Blockwise.{AreMany};
-ghost use Rattle.cs_rows.specs.IndexReading.{IsSpanOf, IsWordRange, OnlyReads};
+ghost use Rattle.cs_rows.specs.IndexReading.{IsRangeOf, IsWordRange, OnlyReads};
 ghost use Rattle.cs_rows.specs.Skipping.{no_head};
 ghost use Rattle.cs_rows.specs.Sources.{SourceView, seen, title_reads};
 ghost use Rattle.cs_rows.specs.Stocked.{is_between, title_at};
@@ -53,8 +53,8 @@ pub trait Source {
         ensures { IsRange (view self.now).words p.now result.0 result.1 };
 
     /// The number of a word and the next one, or an empty range.
-    fn span_of_word(&self, word: &[u8]) -> (u32, u32)
-        ensures span { IsSpanOf (view self.now).words (λ v. bytes_eq v word.now) result.0 result.1 }
+    fn range_of_word(&self, word: &[u8]) -> (u32, u32)
+        ensures range { IsRangeOf (view self.now).words (λ v. bytes_eq v word.now) result.0 result.1 }
         ensures short { result.1 ≤ result.0 + 1 }
         ensures none { list_any (bytes_eq word.now) (view self.now).words ≡ false → result.0 ≡ result.1 };
 

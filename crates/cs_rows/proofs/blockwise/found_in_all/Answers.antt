@@ -10,7 +10,7 @@ use Rattle.cs_rows.specs.Sources.{met_in}
 use Rattle.cs_rows.proofs.BehindLemmas.{best_more}
 use Rattle.cs_rows.proofs.CountingLemmas.{listed_in}
 use Rattle.cs_rows.proofs.OverSources.{blocks_counted}
-use Rattle.cs_rows.proofs.SkippingLemmas.{all_reach, hits_begin, hits_end, hits_go_on, hits_stop, next_block, read_where, some_hit}
+use Rattle.cs_rows.proofs.SkippingLemmas.{all_reach, hits_end, hits_go_on, hits_stop, next_block, read_where, some_hit}
 use Rattle.cs_rows.proofs.WalkLemmas.{block_fails, fails_behind, hands_on}
 use Rattle.cs_rows.proofs.blockwise.found_in_all.Given as given
 use Rattle.cs_rows.proofs.blockwise.found_in_all.Goals as goal

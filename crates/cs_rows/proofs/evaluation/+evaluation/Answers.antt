@@ -72,17 +72,17 @@ rows_of_atom-returns-in-Prefix-clause-reads g t c =
 pub rows_of_atom-returns-in-Exact-clause-told : goal.rows_of_atom-returns-in-Exact-clause-told
 rows_of_atom-returns-in-Exact-clause-told g t c b is stands =
     let asks = exact_words (g.I.Source.view c.args.index.now) c.requires.opened.source c.args.atom.now c.in-Exact.word c.as_bytes-in-Exact.result.now
-    c.span_of_word-words.result.0
-    c.span_of_word-words.result.1 c.in-Exact.is (c.as_bytes-in-Exact.ensures.value ∙ c.as_str-in-Exact.ensures) c.span_of_word-words.ensures.span
-    c.span_of_word-words.ensures.short c.span_of_word-words.ensures.none in
+    c.range_of_word-words.result.0
+    c.range_of_word-words.result.1 c.in-Exact.is (c.as_bytes-in-Exact.ensures.value ∙ c.as_str-in-Exact.ensures) c.range_of_word-words.ensures.range
+    c.range_of_word-words.ensures.short c.range_of_word-words.ensures.none in
     words_told asks _ c.rows_between-in-Exact.result b stands (c.rows_between-in-Exact.ensures.told b is stands)
 
 pub rows_of_atom-returns-in-Exact-clause-reads : goal.rows_of_atom-returns-in-Exact-clause-reads
 rows_of_atom-returns-in-Exact-clause-reads g t c =
     let asks = exact_words (g.I.Source.view c.args.index.now) c.requires.opened.source c.args.atom.now c.in-Exact.word c.as_bytes-in-Exact.result.now
-    c.span_of_word-words.result.0
-    c.span_of_word-words.result.1 c.in-Exact.is (c.as_bytes-in-Exact.ensures.value ∙ c.as_str-in-Exact.ensures) c.span_of_word-words.ensures.span
-    c.span_of_word-words.ensures.short c.span_of_word-words.ensures.none in
+    c.range_of_word-words.result.0
+    c.range_of_word-words.result.1 c.in-Exact.is (c.as_bytes-in-Exact.ensures.value ∙ c.as_str-in-Exact.ensures) c.range_of_word-words.ensures.range
+    c.range_of_word-words.ensures.short c.range_of_word-words.ensures.none in
     within_more c.rows_between-in-Exact.ensures.reads asks.few
 
 pub rows_of_atom-returns-in_err-rows-in-Join-clause-reads : goal.rows_of_atom-returns-in_err-rows-in-Join-clause-reads

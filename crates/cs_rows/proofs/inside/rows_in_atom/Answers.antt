@@ -31,9 +31,9 @@ returns-in-Prefix-clause-reads g c =
 pub returns-in-Exact-clause-told : goal.returns-in-Exact-clause-told
 returns-in-Exact-clause-told g c b is stands =
     let v = g.I.Source.view c.args.index.now in
-    let asks = exact_words v c.requires.sieve.opened.source c.args.atom.now c.in-Exact.word c.as_bytes-in-Exact.result.now c.span_of_word-words.result.0
-    c.span_of_word-words.result.1 c.in-Exact.is (c.as_bytes-in-Exact.ensures.value ∙ c.as_str-in-Exact.ensures) c.span_of_word-words.ensures.span
-    c.span_of_word-words.ensures.short c.span_of_word-words.ensures.none in
+    let asks = exact_words v c.requires.sieve.opened.source c.args.atom.now c.in-Exact.word c.as_bytes-in-Exact.result.now c.range_of_word-words.result.0
+    c.range_of_word-words.result.1 c.in-Exact.is (c.as_bytes-in-Exact.ensures.value ∙ c.as_str-in-Exact.ensures) c.range_of_word-words.ensures.range
+    c.range_of_word-words.ensures.short c.range_of_word-words.ensures.none in
     words_inside asks c.args.hits.now c.args.listed.now c.requires.lists _ c.rows_in_hits-in-Exact.result b stands
     (c.rows_in_hits-in-Exact.ensures.told b is stands)
 
@@ -42,11 +42,11 @@ returns-in-Exact-clause-reads g c =
     let v = g.I.Source.view c.args.index.now in
     let source = c.requires.sieve.opened.source in
     let same = c.as_bytes-in-Exact.ensures.value ∙ c.as_str-in-Exact.ensures in
-    let asks = exact_words v source c.args.atom.now c.in-Exact.word c.as_bytes-in-Exact.result.now c.span_of_word-words.result.0
-    c.span_of_word-words.result.1 c.in-Exact.is same c.span_of_word-words.ensures.span c.span_of_word-words.ensures.short c.span_of_word-words.ensures.none in
+    let asks = exact_words v source c.args.atom.now c.in-Exact.word c.as_bytes-in-Exact.result.now c.range_of_word-words.result.0
+    c.range_of_word-words.result.1 c.in-Exact.is same c.range_of_word-words.ensures.range c.range_of_word-words.ensures.short c.range_of_word-words.ensures.none in
     within_more c.rows_in_hits-in-Exact.ensures.reads
-    (exact_sharp v source c.args.atom.now c.in-Exact.word c.as_bytes-in-Exact.result.now c.span_of_word-words.result.0 c.span_of_word-words.result.1
-    c.in-Exact.is same c.span_of_word-words.ensures.span asks.few c.args.hits.now)
+    (exact_sharp v source c.args.atom.now c.in-Exact.word c.as_bytes-in-Exact.result.now c.range_of_word-words.result.0 c.range_of_word-words.result.1
+    c.in-Exact.is same c.range_of_word-words.ensures.range asks.few c.args.hits.now)
 
 -- ---- joins
 pub returns-in_ok-kept-in-Join-clause-told : goal.returns-in_ok-kept-in-Join-clause-told

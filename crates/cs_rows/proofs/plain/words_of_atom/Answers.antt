@@ -11,9 +11,9 @@ returns-in-Prefix-clause-words g c = prefix_words (g.I.Source.view c.args.index.
 pub returns-in-Exact-clause-words : goal.returns-in-Exact-clause-words
 returns-in-Exact-clause-words g c =
     exact_words (g.I.Source.view c.args.index.now) c.requires.index c.args.atom.now c.in-Exact.word c.as_bytes-in-Exact.result.now
-    c.span_of_word.result.0 c.span_of_word.result.1
-    c.in-Exact.is (c.as_bytes-in-Exact.ensures.value ∙ c.as_str-in-Exact.ensures) c.span_of_word.ensures.span c.span_of_word.ensures.short
-    c.span_of_word.ensures.none
+    c.range_of_word.result.0 c.range_of_word.result.1
+    c.in-Exact.is (c.as_bytes-in-Exact.ensures.value ∙ c.as_str-in-Exact.ensures) c.range_of_word.ensures.range c.range_of_word.ensures.short
+    c.range_of_word.ensures.none
 
 pub returns-in-Prefix-clause-sharp : goal.returns-in-Prefix-clause-sharp
 returns-in-Prefix-clause-sharp g c =
@@ -28,7 +28,7 @@ pub returns-in-Exact-clause-sharp : goal.returns-in-Exact-clause-sharp
 returns-in-Exact-clause-sharp g c =
     let v = g.I.Source.view c.args.index.now in
     let same = c.as_bytes-in-Exact.ensures.value ∙ c.as_str-in-Exact.ensures in
-    let asks = exact_words v c.requires.index c.args.atom.now c.in-Exact.word c.as_bytes-in-Exact.result.now c.span_of_word.result.0 c.span_of_word.result.1
-    c.in-Exact.is same c.span_of_word.ensures.span c.span_of_word.ensures.short c.span_of_word.ensures.none in
-    exact_sharp v c.requires.index c.args.atom.now c.in-Exact.word c.as_bytes-in-Exact.result.now c.span_of_word.result.0 c.span_of_word.result.1
-    c.in-Exact.is same c.span_of_word.ensures.span asks.few
+    let asks = exact_words v c.requires.index c.args.atom.now c.in-Exact.word c.as_bytes-in-Exact.result.now c.range_of_word.result.0 c.range_of_word.result.1
+    c.in-Exact.is same c.range_of_word.ensures.range c.range_of_word.ensures.short c.range_of_word.ensures.none in
+    exact_sharp v c.requires.index c.args.atom.now c.in-Exact.word c.as_bytes-in-Exact.result.now c.range_of_word.result.0 c.range_of_word.result.1
+    c.in-Exact.is same c.range_of_word.ensures.range asks.few

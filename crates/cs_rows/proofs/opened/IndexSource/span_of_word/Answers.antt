@@ -1,6 +1,0 @@
-use Rattle.std.proofs.Common.{subst}
-use Rattle.cs_file.specs.Indexes.{IsIndex}
-use Rattle.cs_rows.proofs.opened.IndexSource.span_of_word.Goals as goal
-
-pub span_of_word-requires : goal.span_of_word-requires
-span_of_word-requires c = record { index = subst IsIndex c.self.view_is c.self.invariant.index }
