@@ -1,5 +1,6 @@
 -- The table of documents: row by row, and the hits that are read off it.
 --
+--   raised                       one row is noted
 --   raised_more, raised_all      rows are noted one after the other
 --   raised_where, raised_row, raised_rows     and those that pass a test
 --   hits_all                     the hits of the table, all of them added

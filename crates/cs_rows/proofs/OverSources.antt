@@ -5,7 +5,6 @@
 --   chosen_among, chosen_alike, chosen_long, chosen_countable     with those in memory: they are rows of the stock, they have the members of
 --                    those asked for, they are as many, and they are countable
 --   run_countable    and so are those of a run of blocks
---   chosen_again     rows that are chosen once more
 --   posts_counted, blocks_counted    one block more is counted
 --   chosen_table     their table
 --   listed_asked     the rows of some words in listed documents
@@ -43,11 +42,6 @@ among_alike xs ys alike k d l =
     let x = get_or xs k d in
     Contains-from_any (λ p q e. by_post_exact p q ((Equal-is (by_post p q)).0 e)) x ys
     (sym (alike (eq_by_cmp by_post x)) ∙ list_any_at (eq_by_cmp by_post x) xs k d l ((Equal-is (by_post x x)).1 (tied_itself by_post_total x)))
-
--- rows that are chosen of a block stay when they are chosen once more
-pub chosen_again : (t : Post → Bool) (rows block : List Post) → All (λ p. t p ≡ true) rows → rows ≡ filter t block → filter t rows ≡ filter t block
-chosen_again t rows block each are =
-    filter_alike t (λ p. true) rows (recursion_from_All (λ p. t p ≡ true) rows each) ∙ all_stay rows ∙ are
 
 flat_twice : (p q : Post → Bool) (bs : List (List Post)) → flat_map (filter (λ x. p x && q x)) bs ≡ filter q (flat_map (filter p) bs)
 flat_twice p q [] = refl
@@ -124,14 +118,13 @@ module _ (b : List ℕ) (v : SourceView) (stands : StandsFor b v.index) (is : Is
       ((is.told b stands).countable first last lo hi listed up within)
 
   pub posts_counted : (first k lo hi : ℕ) (listed : List Bool) (rows : List Post) (old new : WordCountsView) → first ≤ k → k < length v.index.heads
-      → filter (is_chosen lo hi listed) rows ≡ filter (is_chosen lo hi listed) (get_or (v.blocks b) k [])
-      → ((seen : List Post) → AreCountable (seen ++ filter (is_chosen lo hi listed) rows) → HasCounted seen old
-      → HasCounted (seen ++ filter (is_chosen lo hi listed) rows) new)
+      → rows ≡ filter (is_chosen lo hi listed) (get_or (v.blocks b) k [])
+      → ((seen : List Post) → AreCountable (seen ++ rows) → HasCounted seen old → HasCounted (seen ++ rows) new)
       → HasCounted (counted_rows (v.blocks b) first k lo hi listed) old → HasCounted (counted_rows (v.blocks b) first (k + 1) lo hi listed) new
   posts_counted first k lo hi listed rows old new le lt same step h =
       let count = (is.told b stands).count in
       let before = counted_rows (v.blocks b) first k lo hi listed in
-      let more : counted_rows (v.blocks b) first (k + 1) lo hi listed ≡ before ++ filter (is_chosen lo hi listed) rows
+      let more : counted_rows (v.blocks b) first (k + 1) lo hi listed ≡ before ++ rows
       = flat_more (chosen lo hi listed) (v.blocks b) first k le (omega (arith, lt, count)) ∙ ap (λ rs. before ++ rs) (sym same) in
       let all = run_countable first (k + 1) lo hi listed (omega (arith, le)) (omega (arith, lt)) in
       subst (λ rs. HasCounted rs new) (sym more) (step before (subst AreCountable more all) h)
@@ -145,7 +138,7 @@ module _ (b : List ℕ) (v : SourceView) (stands : StandsFor b v.index) (is : Is
       let block = get_or (v.blocks b) k [] in
       let Steps : ℕ → ℕ → Type 0 = λ l u. (seen : List Post) → AreCountable (seen ++ chosen l u listed block) → HasCounted seen old
       → HasCounted (seen ++ chosen l u listed block) new in
-      posts_counted first k lo hi listed block old new le lt refl (subst (Steps lo) high (subst (λ l. Steps l old.high) low step)) h
+      posts_counted first k lo hi listed (chosen lo hi listed block) old new le lt refl (subst (Steps lo) high (subst (λ l. Steps l old.high) low step)) h
 
   -- ---- listed documents
   -- the rows of some words in the documents that a base lists

@@ -15,7 +15,7 @@
 --   gathered, all_in_room, all_gathered     what is gathered of one
 --   in_rows, ordered_within, ordered_passed, ordered_told     what is brought into order of it
 --   as_they_come        and what isn't
---   keys_among, keys_between     what holds of each of the rows
+--   keys_among, words_between, keys_between     what holds of each of the rows
 use Rattle.std.proofs.Common.{◌≡◌, ℕ, zero, suc, ◌+◌, ◌-◌, ◌*◌, ◌/◌, ◌%◌, ◌<◌, ◌≤◌, ◌==◌, ◌&&◌, ◌||◌, Bool, true, false, true≢false, cond, List, [], ◌∷◌}
 use Rattle.std.proofs.Common.{◌++◌, ◌^◌, inl, inr, length, get_or, take, drop, map, Option, refl, sym, ap, ap₂, subst, ◌∙◌, arith}
 use Rattle.std.specs.Prelude.{All, filter, flat_map, nat_le, nat_lt}
@@ -556,10 +556,16 @@ keys_among w P rows keys are packed h =
     subst (All (λ k. P (post_of_key w k))) (sym are)
     (All-map (λ k. P (post_of_key w k)) (key_of w) rows (λ k d l. subst P (sym (unkeyed w (get_or rows k d) (packed k d l))) (h k d l)))
 
+-- rows that are chosen are of the words
+pub words_between : (lo hi : ℕ) (listed : List Bool) (rows : List Post) → All (λ p. is_chosen lo hi listed p ≡ true) rows
+    → All (λ p. (lo ≤ p.word) × (p.word < hi)) rows
+words_between lo hi listed rows passed =
+    All-weaker (λ p. is_chosen lo hi listed p ≡ true) (λ p. (lo ≤ p.word) × (p.word < hi))
+    (λ p h.
+    let both = and_parts (nat_le lo p.word) (nat_lt p.word hi) (and_parts (nat_le lo p.word && nat_lt p.word hi) (in_listed listed p) h).0 in
+    (leb-true lo p.word both.0, ltb-true p.word hi both.1)) rows passed
+
 pub keys_between : (w : Weights) (lo hi : ℕ) (listed : List Bool) (rows : List Post) (keys : List ℕ) → keys ≡ map (key_of w) rows → All (IsPacked w) rows
     → All (λ p. is_chosen lo hi listed p ≡ true) rows → All (λ k. (lo ≤ word_of_key k) × (word_of_key k < hi)) keys
 keys_between w lo hi listed rows keys are packed passed =
-    keys_among w (λ p. (lo ≤ p.word) × (p.word < hi)) rows keys are packed
-    (All-weaker (λ p. is_chosen lo hi listed p ≡ true) (λ p. (lo ≤ p.word) × (p.word < hi)) (λ p h.
-    let both = and_parts (nat_le lo p.word) (nat_lt p.word hi) (and_parts (nat_le lo p.word && nat_lt p.word hi) (in_listed listed p) h).0 in
-    (leb-true lo p.word both.0, ltb-true p.word hi both.1)) rows passed)
+    keys_among w (λ p. (lo ≤ p.word) × (p.word < hi)) rows keys are packed (words_between lo hi listed rows passed)

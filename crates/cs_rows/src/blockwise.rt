@@ -21,7 +21,7 @@ ghost use Rattle.cs_rows.specs.Stocked.{is_between, base_posts};
 
 use crate::best::{blank_table, raise_at_hand, raise_keys, raise_rows, scored_in};
 use crate::bounds::may_hit;
-use crate::chosen::count_chosen;
+use crate::chosen::{count_chosen, note_chosen};
 use crate::counting::{count_keys, listed_docs};
 use crate::gathering::GatheredKeys;
 use crate::read_blocks::ReadBlocks;
@@ -104,8 +104,7 @@ pub fn found_behind<I: Source, S: Store>(
             continue;
         }
         seek_in(alloc, index, store, k, words, listed, blocks, &mut sought)?;
-        count_chosen(&mut counts, &sought.posts, words, listed);
-        raise_at_hand(&mut best, &sought.posts, words, listed);
+        note_chosen(&mut counts, &mut best, &sought.posts);
     }
     let found = found_with_held(alloc, index, hits, words, listed, counts, best)?;
     Ok(found)

@@ -1,8 +1,9 @@
 //! Rows at hand that are chosen: those of some words in listed documents.
-ghost use Rattle.std.specs.Prelude.{◌≡◌, ◌<◌, ◌++◌, List, filter, length, map, OnOk};
+ghost use Rattle.std.specs.Prelude.{◌≡◌, ◌<◌, ◌≤◌, ◌++◌, List, filter, length, map, OnOk};
 ghost use Rattle.std.specs.List.{All};
 ghost use Rattle.cs_base.specs.declared.content.doc.Post.{Post};
 ghost use Rattle.cs_tables.specs.WordCounts.{AreCountable, HasCounted, is_chosen};
+ghost use Rattle.cs_rows.specs.BestScores.{HasBestScores};
 ghost use Rattle.cs_rows.specs.Packing.{IsPacked, key_of};
 
 use crate::packing::pack_one;
@@ -61,6 +62,40 @@ pub fn count_chosen(counts: &mut WordCounts, rows: &[Post], words: (u32, u32), l
         if is_chosen(row, words, listed) {
             counts.see(row.doc, row.word);
         }
+    }
+}
+
+/// Counts rows that are chosen already, all of words that are counted, and notes their scores: by document the greatest one.
+pub(crate) fn note_chosen(counts: &mut WordCounts, best: &mut Vec<u8>, rows: &[Post])
+    requires words { All (λ p. (counts.old.low ≤ p.word) × (p.word < counts.old.high)) rows.now }
+    requires known { All (λ p. p.doc < length best.old.items) rows.now }
+
+    ensures counted { (seen : List Post) → AreCountable (seen ++ rows.now) → HasCounted seen counts.old
+        → HasCounted (seen ++ rows.now) counts.new }
+    ensures best { (seen : List Post) → HasBestScores seen best.old.items → HasBestScores (seen ++ rows.now) best.new.items }
+    ensures low { counts.new.low ≡ counts.old.low }
+    ensures high { counts.new.high ≡ counts.old.high }
+    ensures len { length best.new.items ≡ length best.old.items }
+{
+    note_rows(counts, best, rows);
+}
+
+// The same.
+fn note_rows(counts: &mut WordCounts, best: &mut [u8], rows: &[Post])
+    requires words { All (λ p. (counts.old.low ≤ p.word) × (p.word < counts.old.high)) rows.now }
+    requires known { All (λ p. p.doc < length best.old) rows.now }
+
+    ensures counted { (seen : List Post) → AreCountable (seen ++ rows.now) → HasCounted seen counts.old
+        → HasCounted (seen ++ rows.now) counts.new }
+    ensures best { (seen : List Post) → HasBestScores seen best.old → HasBestScores (seen ++ rows.now) best.new }
+    ensures low { counts.new.low ≡ counts.old.low }
+    ensures high { counts.new.high ≡ counts.old.high }
+    ensures len { length best.new ≡ length best.old }
+{
+    for row in rows {
+        let at = row.doc as usize;
+        counts.see(row.doc, row.word);
+        best[at] = best[at].max(row.score);
     }
 }
 

@@ -13,7 +13,11 @@ use cs_text::named_word;
 use std::alloc::Global;
 
 /// The facet words of a name: from the first number up to the second, which is left out.
-pub fn range_of_facet<I: Source>(alloc: Global, index: &I, name: &Text) -> Result<(u32, u32), Memory>
+pub fn range_of_facet<I: Source>(
+    alloc: Global,
+    index: &I,
+    name: &Text,
+) -> Result<(u32, u32), Memory>
     ensures { IfOk result (λ w. IsRange (I.view index.now).words (named name.now []) w.0 w.1) }
 {
     let prefix = named_word(alloc, name.as_str(), "")?;

@@ -13,8 +13,8 @@ use Rattle.cs_rows.specs.BestScores.{HasBestScores}
 use Rattle.cs_rows.specs.IndexReading.{IsWithin, run_of}
 use Rattle.cs_rows.specs.Packing.{doc_of_key, post_of_key, word_of_key}
 use Rattle.cs_rows.specs.Skipping.{hit_blocks, may_hit}
-use Rattle.cs_rows.proofs.PackingLemmas.{as_they_come, docs_below, keys_among, keys_between}
-use Rattle.cs_rows.proofs.OverSources.{blocks_counted, chosen_again, posts_counted, run_countable}
+use Rattle.cs_rows.proofs.PackingLemmas.{as_they_come, docs_below, keys_among, keys_between, words_between}
+use Rattle.cs_rows.proofs.OverSources.{blocks_counted, posts_counted, run_countable}
 use Rattle.cs_rows.proofs.PartSteps.{base_in}
 use Rattle.cs_rows.proofs.BehindLemmas.{best_more}
 use Rattle.cs_rows.proofs.SkippingLemmas.{hits_begin, hits_end, hits_go_on, hits_skip, hits_stop, next_block, nothing_more, read_where, sieve_of, skipped, two_runs}
@@ -113,22 +113,21 @@ loop-k-preserved-then-not-may_hit g c =
     }
 
 -- ---- another block
-pub count_chosen-requires-clause-known : goal.count_chosen-requires-clause-known
-count_chosen-requires-clause-known g c =
-    let v = g.I.Source.view c.args.index.now in
+pub note_chosen-requires-clause-words : goal.note_chosen-requires-clause-words
+note_chosen-requires-clause-words g c =
     let from = c.in_ok-seek_in.ensures.rows None (λ b is. absurd (none-some b is)) in
-    subst (All (λ p. p.doc < length c.args.listed.now)) (sym c.deref-in-loop-k.ensures.value)
-    (docs_below v c.seek_in.new.sought.posts.items (c.requires.listed.long ∙ c.requires.opened.source.long) from.within)
+    let rows = c.deref-in-loop-k.result.now in
+    let between = subst (All (λ p. (c.args.words.0 ≤ p.word) × (p.word < c.args.words.1))) (sym c.deref-in-loop-k.ensures.value)
+    (words_between c.args.words.0 c.args.words.1 c.args.listed.now c.seek_in.new.sought.posts.items from.passed) in
+    subst (λ n. All (λ p. (n ≤ p.word) × (p.word < c.loop-k.counts.high)) rows) (sym c.loop-k.invariant.low)
+    (subst (λ n. All (λ p. (c.args.words.0 ≤ p.word) × (p.word < n)) rows) (sym c.loop-k.invariant.high) between)
 
-pub raise_at_hand-requires-clause-known : goal.raise_at_hand-requires-clause-known
-raise_at_hand-requires-clause-known g c =
+pub note_chosen-requires-clause-known : goal.note_chosen-requires-clause-known
+note_chosen-requires-clause-known g c =
     let v = g.I.Source.view c.args.index.now in
     let from = c.in_ok-seek_in.ensures.rows None (λ b is. absurd (none-some b is)) in
-    subst (All (λ p. p.doc < length c.loop-k.best.items)) (sym c.deref-in-loop-k-2.ensures.value)
+    subst (All (λ p. p.doc < length c.loop-k.best.items)) (sym c.deref-in-loop-k.ensures.value)
     (docs_below v c.seek_in.new.sought.posts.items c.loop-k.invariant.len from.within)
-
-pub raise_at_hand-requires-clause-long : goal.raise_at_hand-requires-clause-long
-raise_at_hand-requires-clause-long g c = c.requires.listed.long ∙ c.requires.opened.source.long ∙ sym c.loop-k.invariant.len
 
 pub returns-in_err-seek_in-clause-reads : goal.returns-in_err-seek_in-clause-reads
 returns-in_err-seek_in-clause-reads g c =
@@ -165,28 +164,26 @@ loop-k-preserved g c =
     let below : c.loop-k.k < length v.index.heads = (let w = had.met.within in omega (arith, w, c.loop-k-test.true)) in
     let onward : from.first ≤ c.loop-k.k = (let o = had.onward in omega (arith, o, c.loop-k.auto.k)) in
     let hits = c.args.hits.now in
-    let posts = c.seek_in.new.sought.posts.items in
     let one = read_where hits v.index.heads c.loop-k.k (ap (may_hit hits) (sym c.head.ensures) ∙ sym c.may_hit.ensures ∙ c.if-not-may_hit.false) in
     let on = next_block hits v.index.heads from.next c.loop-k.k c.loop-k.auto.k below in
     let Are : List ℕ → Type 0 = λ x. (g.S.Store.bytes c.loop-k.store ≡ Some x) × All (HasFileBytes x) c.loop-k.blocks.blocks.items in
-    let again : (b : List ℕ) → g.S.Store.bytes c.args.store.now ≡ Some b → StandsFor b v.index → All (HasFileBytes b) c.args.blocks.now.blocks.items
-    → filter t posts ≡ filter t (get_or (v.blocks b) c.loop-k.k []) = λ b is stands files.
+    let handed : (b : List ℕ) → g.S.Store.bytes c.args.store.now ≡ Some b → StandsFor b v.index → All (HasFileBytes b) c.args.blocks.now.blocks.items
+    → c.deref-in-loop-k.result.now ≡ filter t (get_or (v.blocks b) c.loop-k.k []) = λ b is stands files.
     let own = read.rows (Some b) (λ x same. subst Are (same_Some b x same) (inv.walk.store.bytes ∙ is, inv.file b is files)) in
-    chosen_again t posts (get_or (v.blocks b) c.loop-k.k []) own.passed (own.read b refl stands) in
+    c.deref-in-loop-k.ensures.value ∙ own.read b refl stands in
     record {
       walk = hits_go_on inv.walk read.store read.reads (on ∙ ap (λ n. hit_blocks hits v.index.heads from.next c.loop-k.k + n) one);
-      low = c.count_chosen.ensures.low ∙ inv.low;
-      high = c.count_chosen.ensures.high ∙ inv.high;
+      low = c.note_chosen.ensures.low ∙ inv.low;
+      high = c.note_chosen.ensures.high ∙ inv.high;
       told = λ b is stands own files.
           posts_counted b v stands c.requires.opened.source from.first c.loop-k.k lo hi listed c.deref-in-loop-k.result.now c.loop-k.counts
-          c.count_chosen.new.counts onward below (ap (filter t) c.deref-in-loop-k.ensures.value ∙ again b is stands files) c.count_chosen.ensures.counted
-          (inv.told b is stands own files);
+          c.note_chosen.new.counts onward below (handed b is stands files) c.note_chosen.ensures.counted (inv.told b is stands own files);
       scored = λ b is stands own files.
           best_more b v stands c.requires.opened.source lo hi listed from.first c.loop-k.k c.loop-k.best.items
-          c.raise_at_hand.new.best.items onward below
-          (λ seen has. subst (λ rs. HasBestScores (seen ++ rs) c.raise_at_hand.new.best.items)
-          (ap (filter t) c.deref-in-loop-k-2.ensures.value ∙ again b is stands files) (c.raise_at_hand.ensures.best seen has)) (inv.scored b is stands own files);
-      len = c.raise_at_hand.ensures.len ∙ inv.len;
+          c.note_chosen.new.best.items onward below
+          (λ seen has. subst (λ rs. HasBestScores (seen ++ rs) c.note_chosen.new.best.items) (handed b is stands files) (c.note_chosen.ensures.best seen has))
+          (inv.scored b is stands own files);
+      len = c.note_chosen.ensures.len ∙ inv.len;
       fit = read.fit;
       file = λ b is files. read.file b (inv.walk.store.bytes ∙ is) (inv.file b is files);
     }
