@@ -13,6 +13,7 @@ PROGRAM, and inside its process for the plain engine. Then each request is timed
 the other, beside the same request in the plain engine. Replies are compared byte for byte, and the status is 1 where one differs.
 A ratio holds on other machines about as well; a time doesn't. It needs g++.
 """
+import concurrent.futures
 import os
 import pathlib
 import random
@@ -75,6 +76,13 @@ def typed(documents, sessions, facets):
 def first_facets(documents):
     names = dict.fromkeys(word.split(":")[1] for _, words, _ in documents for word in words)
     return ",".join(list(names)[:2])
+
+
+def prepared(collection, name, sessions=100, facets=None):
+    """Writes the file of words; the answer has the requests. It is called in a process of its own, since a program's peak counts what the
+    process holds that starts it."""
+    documents = cut(collection, name)
+    return typed(documents, int(sessions), first_facets(documents) if facets is None else facets)
 
 
 def run(*words, out=subprocess.DEVNULL):
@@ -183,9 +191,8 @@ def main():
         sys.exit("usage: bench/beside.py COLLECTION PROGRAM [SESSIONS [FACETS]]")
     collection, program = sys.argv[1], os.path.abspath(sys.argv[2])
     with tempfile.TemporaryDirectory(prefix="beside-") as folder:
-        documents = cut(collection, os.path.join(folder, "words"))
-        facets = sys.argv[4] if len(sys.argv) > 4 else first_facets(documents)
-        lines = typed(documents, int(sys.argv[3]) if len(sys.argv) > 3 else 100, facets)
+        with concurrent.futures.ProcessPoolExecutor(1) as other:
+            lines = other.submit(prepared, collection, os.path.join(folder, "words"), *sys.argv[3:]).result()
         return 0 if measure(collection, program, pathlib.Path(folder), lines) else 1
 
 
