@@ -11,14 +11,14 @@ use Rattle.cs_base.specs.outside.Causes.{Rose}
 use Rattle.cs_base.specs.outside.Outside.{Grew, GrewByPrefix}
 use Rattle.cs_model.specs.Corpus.{Corpus}
 use Rattle.cs_model.specs.Outputs.{MayPut, line_fault, memory_text, read_text}
+use Rattle.cs_indexing.specs.CommandLine.{failed, CausedBy}
+use Rattle.cs_indexing.specs.Met.{Wrote}
+use Rattle.cs_indexing.specs.Views.{of_script, stop_ending}
+use Rattle.cs_indexing.specs.declared.unread.ScriptStop.{ScriptStop}
+use Rattle.cs_indexing.specs.declared.unread.ScriptStop.TheVariants as scripts
 use Rattle.cs_top.specs.Answering.{CameCounts, Costs, FileView, HasText, MayAnswer, came_of_answer, line_bytes}
-use Rattle.cs_top.specs.CommandLine.{failed, CausedBy}
 use Rattle.cs_top.specs.HitForms.{AtHand}
-use Rattle.cs_top.specs.Met.{Wrote}
 use Rattle.cs_top.specs.ScriptEndings.{Passes, StopsAt}
-use Rattle.cs_top.specs.Views.{of_script, stop_ending}
-use Rattle.cs_top.specs.declared.lines.ScriptStop.{ScriptStop}
-use Rattle.cs_top.specs.declared.lines.ScriptStop.TheVariants as scripts
 use Rattle.cs_top.specs.declared.script.WhatCame.{WhatCame}
 use Rattle.cs_top.specs.declared.script.WhatCame.TheVariants as came
 use Rattle.cs_top.specs.declared.script.answers.Answer.{Answer}

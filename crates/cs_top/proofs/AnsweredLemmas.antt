@@ -13,9 +13,9 @@ use Rattle.cs_model.specs.Words.{is_filled}
 use Rattle.cs_model.specs.First.{first_reason}
 use Rattle.cs_model.specs.Outputs.{ScriptFault, MayPut, OneEach, line_fault, first_fault, is_readable, readable_lines, put_of}
 use Rattle.cs_model.proofs.OutputLemmas.{one_each-push, put_of-push}
+use Rattle.cs_indexing.specs.CommandLine.{Ending, done, usage, refused, damaged, absent, failed, no_memory, script_refused, changed, merge_refused}
+use Rattle.cs_indexing.specs.Met.{Wrote}
 use Rattle.cs_top.specs.Answering.{Costs, worst}
-use Rattle.cs_top.specs.CommandLine.{Ending, done, usage, refused, damaged, absent, failed, no_memory, script_refused, changed, merge_refused}
-use Rattle.cs_top.specs.Met.{Wrote}
 use Rattle.cs_top.specs.ScriptEndings.{MayPutAll, ScriptEnds, ScriptEndsBy, ShortTally, Tally, StopsAt, Reaches, EndsAt}
 use Rattle.cs_top.specs.declared.lines.Place.{Place}
 use Rattle.cs_top.specs.declared.script.WhatCame.{WhatCame}

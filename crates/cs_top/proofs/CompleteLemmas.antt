@@ -9,22 +9,22 @@ use Rattle.cs_model.specs.Outputs.{IsAnswer, MayPut, OneEach, failed_reads, scri
 use Rattle.cs_model_index.specs.BlockRules.{broken_at}
 use Rattle.cs_model_index.specs.Images.{Image}
 use Rattle.cs_model_index.specs.Sections.{file_corpus, image_of}
+use Rattle.cs_indexing.specs.Build.{BuildStops, BuildTold, BuildWrites, CanBuild}
+use Rattle.cs_indexing.specs.CommandLine.{Command, build, ask, replay, serve, trial, upgrade, merge, live, Ending, done, usage, refused, damaged, absent, failed, no_memory, script_refused, changed, merge_refused, status, Caused, CausedBy}
+use Rattle.cs_indexing.specs.Import.{IsAcceptedAs, IsRefusedAs, Refusal, of_collection, of_csv, of_jsonl}
+use Rattle.cs_indexing.specs.Merge.{CanMerge, MergeStops, MergeTold}
+use Rattle.cs_indexing.specs.Met.{Listened, Met, Wrote, held_bytes}
+use Rattle.cs_indexing.specs.Upgrade.{CanUpgrade, UpgradeStops, UpgradeTold}
+use Rattle.cs_indexing.specs.declared.words.Form.{Form}
+use Rattle.cs_indexing.specs.declared.words.Form.TheVariants as forms
+use Rattle.cs_indexing.specs.declared.words.HitForm.{HitForm}
 use Rattle.cs_top.specs.ScriptRuns.{AskStops, AskTold, CanAsk, CanReplay, IndexScript, ReplayCaused, ReplayStops, ReplayTold}
-use Rattle.cs_top.specs.Build.{BuildStops, BuildTold, BuildWrites, CanBuild}
-use Rattle.cs_top.specs.CommandLine.{Command, build, ask, replay, serve, trial, upgrade, merge, live, Ending, done, usage, refused, damaged, absent, failed, no_memory, script_refused, changed, merge_refused, status, Caused, CausedBy}
-use Rattle.cs_top.specs.Import.{IsAcceptedAs, IsRefusedAs, Refusal, of_collection, of_csv, of_jsonl}
 use Rattle.cs_top.specs.Answering.{IsReplayed}
 use Rattle.cs_top.specs.LiveRuns.{IsToldCourse, LiveTold}
-use Rattle.cs_top.specs.Merge.{CanMerge, MergeStops, MergeTold}
-use Rattle.cs_top.specs.Met.{Listened, Met, Wrote, held_bytes}
 use Rattle.cs_top.specs.CommandRuns.{Completes, Ran}
 use Rattle.cs_top.specs.ScriptEndings.{IsReadable, MayPutAll, ScriptEnds}
 use Rattle.cs_top.specs.Serve.{CanServe, ServeCaused, ServeEnds, ServeStops, ServeTold}
 use Rattle.cs_top.specs.Trial.{TrialEnds}
-use Rattle.cs_top.specs.Upgrade.{CanUpgrade, UpgradeStops, UpgradeTold}
-use Rattle.cs_top.specs.declared.words.Form.{Form}
-use Rattle.cs_top.specs.declared.words.Form.TheVariants as forms
-use Rattle.cs_top.specs.declared.words.HitForm.{HitForm}
 use Rattle.cs_top.proofs.ServeEndings.{served_all}
 
 missing : (f : Option File) → IsHeld f → f ≡ None → ⊥

@@ -1,9 +1,7 @@
 pub mod AnswerLemmas
 pub mod AnsweredLemmas
-pub mod BuildLemmas
 pub mod ChangeLines
 pub mod CompleteLemmas
-pub mod CommandLineExamples
 pub mod LineTexts
 pub mod LiveScripts
 pub mod LiveOverLemmas
@@ -14,12 +12,10 @@ pub mod MemoryText
 pub mod OutcomeTextLemmas
 pub mod OverLemmas
 pub mod PutTextLemmas
-pub mod SaysLemmas
-pub mod SourceLemmas
 pub mod ScriptLemmas
+pub mod ScriptStops
 pub mod ServeEndings
 pub mod ShownLemmas
-pub mod StopLemmas
 pub mod TallyLemmas
 pub mod TextsApart
 pub mod LinesAtPlaces

@@ -17,8 +17,8 @@ use Rattle.cs_model.specs.Refusals.{Bad, Limit}
 use Rattle.cs_query.specs.ParamNames.{param_name}
 use Rattle.cs_model.specs.Replies.{reply_text}
 use Rattle.cs_model.specs.Requests.{Request, reply_of}
+use Rattle.cs_indexing.specs.declared.words.HitForm.{HitForm}
 use Rattle.cs_top.specs.PutTexts.{IsOwnText}
-use Rattle.cs_top.specs.declared.words.HitForm.{HitForm}
 use Rattle.cs_query.specs.declared.request.ReqFault.{ReqFault}
 use Rattle.cs_query.specs.declared.request.ReqFault.TheVariants as causes
 

@@ -5,9 +5,9 @@ use Rattle.std.specs.Str.Lines.{lines}
 use Rattle.cs_base.specs.declared.content.limits.TheConstants.{MAX_SCRIPT_LINE_BYTES}
 use Rattle.cs_model.specs.Outputs.{MayPut, line_fault, script_line_too_long}
 use Rattle.cs_model_live.specs.LiveStates.{LiveState}
-use Rattle.cs_top.specs.CommandLine.{Ending, done, usage, refused, damaged, absent, failed, no_memory, script_refused, changed, merge_refused}
+use Rattle.cs_indexing.specs.CommandLine.{Ending, done, usage, refused, damaged, absent, failed, no_memory, script_refused, changed, merge_refused}
+use Rattle.cs_indexing.specs.Met.{Wrote}
 use Rattle.cs_top.specs.LiveSteps.{LivePasses, LiveReaches}
-use Rattle.cs_top.specs.Met.{Wrote}
 use Rattle.cs_top.specs.ScriptEndings.{StopsAt, IsFirstLine, EndsAt, Passes, Reaches}
 use Rattle.cs_top.specs.declared.lines.Place.{Place}
 use Rattle.cs_top.specs.declared.script.WhatCame.{WhatCame}

@@ -14,17 +14,17 @@ use Rattle.cs_model_index.specs.Sections.{file_corpus, image_of}
 use Rattle.cs_model_live.proofs.CourseLemmas.{courses_go_on}
 use Rattle.cs_model_live.specs.Courses.{Course}
 use Rattle.cs_model_live.specs.LiveStates.{LiveState, before_changes}
+use Rattle.cs_indexing.specs.CommandLine.{Ending, done, failed}
+use Rattle.cs_indexing.specs.Met.{Wrote}
+use Rattle.cs_indexing.specs.Views.{of_script, stop_ending}
+use Rattle.cs_indexing.specs.declared.unread.ScriptStop.{ScriptStop}
 use Rattle.cs_top.proofs.AnsweredLemmas.{HasAnswered, as_put, at_start, ends_at_line, ends_done, goes_behind, goes_past, lines_at, unread}
 use Rattle.cs_top.proofs.ScriptLemmas.{index_ended}
 use Rattle.cs_top.specs.Answering.{CameCounts, worst}
-use Rattle.cs_top.specs.CommandLine.{Ending, done, failed}
 use Rattle.cs_top.specs.LiveRuns.{IsToldCourse, LiveScript}
 use Rattle.cs_top.specs.LiveSteps.{IsLiveStep, IsToldCourseTo, LineText, LiveReaches}
-use Rattle.cs_top.specs.Met.{Wrote}
-use Rattle.cs_top.specs.ScriptEndings.{EndsAt, ScriptEndsBy, ShortTally, Tally}
-use Rattle.cs_top.specs.Views.{of_script, script_ending, stop_ending}
+use Rattle.cs_top.specs.ScriptEndings.{EndsAt, ScriptEndsBy, ShortTally, Tally, script_ending}
 use Rattle.cs_top.specs.declared.lines.Place.{Place}
-use Rattle.cs_top.specs.declared.lines.ScriptStop.{ScriptStop}
 use Rattle.cs_top.specs.declared.script.WhatCame.{WhatCame}
 use Rattle.cs_top.specs.declared.script.WhatCame.TheVariants.{Answered}
 

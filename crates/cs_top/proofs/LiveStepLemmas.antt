@@ -26,23 +26,23 @@ use Rattle.cs_model_index.specs.Sections.{file_corpus, image_of}
 use Rattle.cs_model_live.specs.Courses.{IsLineStep, MayFail, failed, own}
 use Rattle.cs_model_live.specs.LiveLines.{LiveLine, Outcome as Became, adds, asks, deletes, line_outcome, live_line, outcome, outcome_state, outcome_text, said}
 use Rattle.cs_model_live.specs.LiveStates.{LiveState}
+use Rattle.cs_indexing.specs.CommandLine.{CausedBy}
+use Rattle.cs_indexing.specs.Met.{Wrote}
+use Rattle.cs_indexing.specs.Views.{of_script, stop_ending}
+use Rattle.cs_indexing.specs.declared.unread.ScriptStop.{ScriptStop}
+use Rattle.cs_indexing.specs.declared.unread.ScriptStop.TheVariants as scripts
+use Rattle.cs_indexing.specs.declared.words.HitForm.TheVariants.{Titled}
 use Rattle.cs_top.specs.Answering.{Costs, came_of_answer, line_bytes}
-use Rattle.cs_top.specs.CommandLine.{CausedBy}
 use Rattle.cs_top.specs.LiveAnswering.{LiveLeaves, LiveStanding, Tells}
 use Rattle.cs_top.specs.LiveSteps.{IsLiveStep, LivePasses, LineText}
 use Rattle.cs_top.specs.LiveTexts.{HasOutcomeText, IsLiveText, told_bytes}
-use Rattle.cs_top.specs.Met.{Wrote}
 use Rattle.cs_top.specs.OutcomeTexts.{IsAnswerBy, MayTell, came_of_outcome}
 use Rattle.cs_top.specs.PutTexts.{TextOf}
 use Rattle.cs_top.specs.ScriptEndings.{StopsAt}
-use Rattle.cs_top.specs.Views.{of_script, stop_ending}
-use Rattle.cs_top.specs.declared.lines.ScriptStop.{ScriptStop}
-use Rattle.cs_top.specs.declared.lines.ScriptStop.TheVariants as scripts
 use Rattle.cs_top.specs.declared.live.outcomes.Outcome.{Outcome}
 use Rattle.cs_top.specs.declared.script.WhatCame.{WhatCame}
 use Rattle.cs_top.specs.declared.script.WhatCame.TheVariants.{Answered}
 use Rattle.cs_top.specs.declared.script.answers.Answer.{Answer}
-use Rattle.cs_top.specs.declared.words.HitForm.TheVariants.{Titled}
 use Rattle.cs_top.proofs.LineTexts.{refused_own, refused_text, request_text}
 use Rattle.cs_top.proofs.LiveTextsApart.{live_apart}
 use Rattle.cs_top.proofs.ShownLemmas.{reply_in}

@@ -10,8 +10,8 @@ use Rattle.cs_model.specs.Faults.{changed_text, error_text}
 use Rattle.cs_model.specs.Outputs.{IsChangedText, read_text}
 use Rattle.cs_model_live.specs.LiveLines.{absent_text, added_text, change_text, deleted_text, document_text, full_text}
 use Rattle.cs_model_live.specs.LiveStates.{Full}
+use Rattle.cs_indexing.specs.declared.words.HitForm.TheVariants.{Titled}
 use Rattle.cs_top.specs.LiveTexts.{IsLiveText, IsOutcomeText}
-use Rattle.cs_top.specs.declared.words.HitForm.TheVariants.{Titled}
 use Rattle.cs_top.proofs.PutTextLemmas.{IsApart}
 use Rattle.cs_top.proofs.TextsApart.{own_unchanged, own_unread}
 

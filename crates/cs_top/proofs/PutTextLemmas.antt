@@ -13,17 +13,17 @@ use Rattle.cs_base.specs.outside.Outside.{Grew, GrewByPrefix}
 use Rattle.cs_base.proofs.GrewLemmas.{grew_none, grew_twice, grew_begun, grew_then_begun}
 use Rattle.cs_model.specs.Outputs.{IsChangedText, memory_text, put_of, read_text}
 use Rattle.cs_model.proofs.OutputLemmas.{put_of-push}
+use Rattle.cs_indexing.specs.CommandLine.{CausedBy, Ending, done, usage, refused, damaged, absent, failed, no_memory, script_refused, changed, merge_refused}
+use Rattle.cs_indexing.specs.Met.{Wrote}
+use Rattle.cs_indexing.specs.Views.{of_script, stop_ending}
+use Rattle.cs_indexing.specs.declared.unread.ScriptStop.{ScriptStop}
+use Rattle.cs_indexing.specs.declared.unread.ScriptStop.TheVariants as scripts
+use Rattle.cs_indexing.specs.declared.words.HitForm.{HitForm}
 use Rattle.cs_top.specs.Answering.{came_of_answer, line_bytes, worst}
-use Rattle.cs_top.specs.CommandLine.{CausedBy, Ending, done, usage, refused, damaged, absent, failed, no_memory, script_refused, changed, merge_refused}
-use Rattle.cs_top.specs.Met.{Wrote}
 use Rattle.cs_top.specs.PutTexts.{CutsLine, CutsLineOf, EndsBy, EndsOf, HasTextBy, IsOwnText, IsTextOf, OwnText, PutsLine, PutsLineOf, PutsTexts, PutsTextsOf, TextOf, TextsOf}
-use Rattle.cs_top.specs.Views.{of_script, stop_ending}
-use Rattle.cs_top.specs.declared.lines.ScriptStop.{ScriptStop}
-use Rattle.cs_top.specs.declared.lines.ScriptStop.TheVariants as scripts
 use Rattle.cs_top.specs.declared.script.WhatCame.{WhatCame}
 use Rattle.cs_top.specs.declared.script.WhatCame.TheVariants.{Answered, Read, Changed}
 use Rattle.cs_top.specs.declared.script.answers.Answer.{Answer}
-use Rattle.cs_top.specs.declared.words.HitForm.{HitForm}
 use Rattle.cs_top.proofs.TallyLemmas.{read_first}
 use Rattle.cs_top.proofs.TextsApart.{memory_apart, changed_unread, own_unread, own_unchanged}
 

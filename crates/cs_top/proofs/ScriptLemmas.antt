@@ -2,7 +2,7 @@
 --
 --   ends_by          what a relation says another one says too
 --   made_only        over a file in memory a line has its text or that of want of memory, with or without excerpts
---   held_by, over_made, there_made, some_made, over_held     what is answered over: a file that was made, and one that is held
+--   over_made, there_made, some_made, over_held     what is answered over: a file that was made, and one that is held
 --   index_ended, replay_ended, index_caused     how a script over an index file ended, as `replay` says it, and why
 use Rattle.std.proofs.Common.{◌≡◌, ℕ, ◌+◌, ◌≤◌, Bool, true, false, List, [], ◌∷◌, length, take, inl, inr, refl, sym, ap, ◌∙◌, subst, arith}
 use Rattle.std.specs.Prelude.{Option, Some, None, is_some, if◌then◌else◌, Result, Ok, Err, IfOk, IfErr, OnOk}
@@ -12,20 +12,20 @@ use Rattle.std.proofs.lemmas.Slice.Eq.{bytes_eq-Decides}
 use Rattle.cs_model.specs.Corpus.{Corpus}
 use Rattle.cs_model.specs.Outputs.{MayPut, OneEach, IsAnswer, failed_reads, put_of, read_text, readable_lines}
 use Rattle.cs_model.proofs.OutputLemmas.{length-one_each}
-use Rattle.cs_base.specs.outside.Outside.{File, Held, IsHeld, file_bytes, size_of}
+use Rattle.cs_base.specs.outside.Outside.{Held, file_bytes}
 use Rattle.cs_base.proofs.GrewLemmas.{grew_begun}
 use Rattle.cs_engine.specs.Keeping.{EngineView, AreGood}
 use Rattle.cs_file.specs.Indexes.{IndexView, HasAllBlocks, StandsFor}
 use Rattle.cs_model_index.specs.Sections.{file_corpus}
+use Rattle.cs_indexing.specs.CommandLine.{Ending, done, usage, refused, damaged, absent, failed, no_memory, script_refused, changed, merge_refused}
+use Rattle.cs_indexing.specs.Met.{Wrote, held_bytes}
+use Rattle.cs_indexing.specs.Views.{fault_seen, of_script, stop_ending}
+use Rattle.cs_indexing.specs.declared.unread.ScriptStop.{ScriptStop}
+use Rattle.cs_indexing.specs.declared.unread.ScriptStop.TheVariants as scripts
 use Rattle.cs_top.specs.Answering.{AnswersOver, CameCounts, FileView, IsReplayed, IsThere, MayAnswer, bytes_there}
-use Rattle.cs_top.specs.CommandLine.{Ending, done, usage, refused, damaged, absent, failed, no_memory, script_refused, changed, merge_refused}
 use Rattle.cs_top.specs.HitForms.{AtHand, MayShow}
-use Rattle.cs_top.specs.Met.{Wrote, held_bytes}
 use Rattle.cs_top.specs.ScriptRuns.{IndexScript, ReplayCaused, ReplayScript}
-use Rattle.cs_top.specs.ScriptEndings.{MayPutAll, ScriptCaused, ScriptEnds, ScriptEndsBy, ShortTally, Tally}
-use Rattle.cs_top.specs.Views.{fault_seen, of_script, script_ending, stop_ending}
-use Rattle.cs_top.specs.declared.lines.ScriptStop.{ScriptStop}
-use Rattle.cs_top.specs.declared.lines.ScriptStop.TheVariants as scripts
+use Rattle.cs_top.specs.ScriptEndings.{MayPutAll, ScriptCaused, ScriptEnds, ScriptEndsBy, ShortTally, Tally, script_ending}
 use Rattle.cs_top.specs.declared.script.WhatCame.{WhatCame}
 use Rattle.cs_top.specs.declared.script.WhatCame.TheVariants as came
 
@@ -115,11 +115,6 @@ index_caused (Err (scripts.Unread x)) made from before now first last calm c qui
 index_caused (Err scripts.Failed) made from before now first last calm c quiet short = subst (λ n. ReplayCaused failed n now first last) calm short
 
 -- ---- what is answered over
--- a file of some size is held
-pub held_by : (f : Option File) (n : ℕ) → size_of f ≡ Some n → IsHeld f
-held_by None n e = absurd cc
-held_by (Some f) n e = omega arith
-
 module _ (e : EngineView) (f : FileView) (held : Option Held) where
   pub over_made : (b s : List ℕ) (k : Corpus) → f ≡ record { made = Some s; name = []; size = 0 } → s ≡ b → StandsFor b e.index → AreGood b e → k ≡ file_corpus b → AnswersOver e f held k
   over_made b s k is p st good q = (b, ap (λ x. bytes_there x held) is ∙ ap (λ x. Some x) p, st, good, q)

@@ -26,8 +26,8 @@ use Rattle.cs_model.specs.Digits.{number_of}
 use Rattle.cs_model_index.specs.Sections.{file_corpus}
 use Rattle.cs_model_serving.specs.Connections.{IsFair, Left, MayReplace, StandsBy, answers, changes, says_changed, says_read, reads}
 use Rattle.cs_model_serving.specs.Responses.{Response, all_bytes, index_changed, memory_bytes, read_failed}
-use Rattle.cs_top.specs.CommandLine.{Ending, failed}
-use Rattle.cs_top.specs.Met.{Listened, Met, Wrote, held_bytes}
+use Rattle.cs_indexing.specs.CommandLine.{Ending, failed}
+use Rattle.cs_indexing.specs.Met.{Listened, Met, Wrote, held_bytes}
 use Rattle.cs_top.specs.Serve.{AreAnswered, AreExact, FailsBehind, HasToldPort, IsExact, IsServing, ServeCaused, ServeEnds, ServeFailed, ServeRan, ServeTold, ServesAll, serving_line}
 
 pub serving_by : (p n : List ℕ) (w : Wrote) (net : Listened) (mid : ℕ) → HasToldPort p w → net.new.state.port ≡ number_of p → net.new.state.conns ≡ number_of n → mid ≡ net.old.send_faults → mid ≤ net.new.send_faults → ((Rose mid net.new.send_faults → ⊥) → ForSome net.new.talk AreUnbroken)

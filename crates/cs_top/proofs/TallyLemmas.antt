@@ -10,9 +10,9 @@ use Rattle.cs_base.specs.outside.Causes.{Rose}
 use Rattle.cs_hub.specs.Streams.{RoseBy}
 use Rattle.cs_model.specs.Outputs.{ScriptFault, failed_reads, read_text}
 use Rattle.cs_model.proofs.OutputLemmas.{failed_reads-push}
+use Rattle.cs_indexing.specs.CommandLine.{failed, script_refused}
+use Rattle.cs_indexing.specs.Met.{Wrote}
 use Rattle.cs_top.specs.Answering.{CameCounts, Costs, worst}
-use Rattle.cs_top.specs.CommandLine.{failed, script_refused}
-use Rattle.cs_top.specs.Met.{Wrote}
 use Rattle.cs_top.specs.ScriptEndings.{ShortTally, Tally}
 use Rattle.cs_top.specs.declared.script.WhatCame.{WhatCame}
 use Rattle.cs_top.specs.declared.script.WhatCame.TheVariants.{Answered, Read, Changed}

@@ -14,10 +14,10 @@ use Rattle.cs_model.specs.Parameters.{RequestRefusal, bad_param, bad_query, refu
 use Rattle.cs_model.specs.Refusals.{Bad, Limit}
 use Rattle.cs_model.specs.Replies.{Reply, reply_text}
 use Rattle.cs_model_excerpts.specs.ExcerptReplies.{excerpted_text}
+use Rattle.cs_indexing.specs.declared.words.HitForm.{HitForm}
+use Rattle.cs_indexing.specs.declared.words.HitForm.TheVariants.{Titled, Excerpted}
 use Rattle.cs_top.specs.HitForms.{IsReplyIn}
 use Rattle.cs_top.specs.PutTexts.{IsOwnText}
-use Rattle.cs_top.specs.declared.words.HitForm.{HitForm}
-use Rattle.cs_top.specs.declared.words.HitForm.TheVariants.{Titled, Excerpted}
 
 -- two texts that are told apart by a number of each
 apart : (f : List ℕ → ℕ) (t u : List ℕ) (a b : ℕ) → f t ≡ a → f u ≡ b → a ≢ b → t ≢ u

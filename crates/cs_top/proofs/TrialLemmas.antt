@@ -9,10 +9,8 @@
 --   ok_then                  what follows of a value that is there
 --   told_is                  counts as the lines of a summary
 --   summed                   the text of the summary
---   unrefused, unsaid        a fault of an accepted collection names no refusal, and so no words
 use Rattle.std.proofs.Common.{◌≡◌, ℕ, ◌+◌, ◌^◌, ◌<◌, ◌≤◌, Bool, List, [], ◌∷◌, ◌++◌, length, take, map, get_or, refl, sym, ◌∙◌, ap, subst, arith, add-one, add-zero}
-use Rattle.std.specs.Prelude.{filter, sum, Result, Ok, Err, IfOk, MatchOption, Option, Some, None}
-use Rattle.std.specs.Option.{option_map}
+use Rattle.std.specs.Prelude.{filter, sum, Result, Ok, Err, IfOk}
 use Rattle.std.specs.List.{flat_map}
 use Rattle.std.specs.FinMap as fin
 use Rattle.std.proofs.Math.Seq.{take-suc}
@@ -27,10 +25,7 @@ use Rattle.cs_engine.specs.Keeping.{AreGood, EngineView, IsAfter, KeepsAnswers}
 use Rattle.cs_engine.specs.declared.note.Note.{Note}
 use Rattle.cs_file.specs.Indexes.{StandsFor}
 use Rattle.cs_model.specs.Answers.{hits, parts_of}
-use Rattle.cs_docs.specs.FaultRefusals.{reason_text}
-use Rattle.cs_docs.specs.declared.fault.Reason.{Reason}
-use Rattle.cs_model.specs.Collection.{CollectionRefusal, refusal_words}
-use Rattle.cs_model.specs.Corpus.{Corpus, refusal}
+use Rattle.cs_model.specs.Corpus.{Corpus}
 use Rattle.cs_model.specs.Keys.{keys_of}
 use Rattle.cs_model.specs.Replies.{Reply}
 use Rattle.cs_model.specs.Requests.{Request, reply_of}
@@ -46,9 +41,8 @@ use Rattle.cs_model_trial.specs.Summary.{IsSummary, counted, counts, hits_found,
 use Rattle.cs_model_trial.proofs.TrialExamples.{texts-count}
 use Rattle.cs_query.specs.RequestView.{asked}
 use Rattle.cs_query.specs.declared.request.Request.{Request as Read}
-use Rattle.cs_top.specs.declared.collection.CollectionFault.{CollectionFault}
-use Rattle.cs_top.specs.Views.{IsCollectionCause, collection_refusal_of}
-use Rattle.cs_top.specs.Trial.{AddUp, AreFew, HasAsked, HasSizes, kept_after, sizes_of, with_one_reply}
+use Rattle.cs_indexing.specs.Filed.{HasSizes}
+use Rattle.cs_top.specs.Trial.{AddUp, AreFew, HasAsked, kept_after, sizes_of, with_one_reply}
 use Rattle.cs_trial.specs.Told.{told}
 use Rattle.cs_trial.specs.declared.counts.TrialCounts.{TrialCounts}
 
@@ -186,16 +180,3 @@ told_is n k c documents rows blocks sizes has a =
 pub summed : (n : ℕ) (i : Image) (c : TrialCounts) (t : List ℕ) → IsImage (trial_corpus n) TARGET USUAL_WEIGHTS i → told c ≡ counts n (trial_corpus n) (length i.heads) → t ≡ flat_map summary_line (told c) → IsSummary n t
 unfolding summary
 summed n i c t is same text = record { image = i; indexed = is; told = text ∙ ap (flat_map summary_line) same }
-
--- ---- a collection that is accepted
-by_cause : (x y : Option CollectionRefusal) → y ≡ None → MatchOption x (Unit {0}) (λ r. y ≡ Some r) → x ≡ None
-by_cause None y none h = refl
-by_cause (Some r) y none h = absurd (let wrong : None ≡ Some r = sym none ∙ h in cc)
-
-pub unrefused : (b : List ℕ) (f : CollectionFault) → refusal b ≡ None → IsCollectionCause b f → collection_refusal_of f ≡ None
-unrefused b f none h = by_cause (collection_refusal_of f) (refusal b) none h
-
-pub unsaid : (f : CollectionFault) (r : Reason) (said : Option Reason) → collection_refusal_of f ≡ None
-    → option_map reason_text said ≡ option_map refusal_words (collection_refusal_of f) → said ≡ Some r → ⊥
-unsaid f r said none words is =
-    absurd (let wrong : Some (reason_text r) ≡ None = ap (option_map reason_text) (sym is) ∙ words ∙ ap (option_map refusal_words) none in cc)

@@ -1,6 +1,6 @@
 -- The first line of a text, seen through a window onto its front.
 use Rattle.std.proofs.Common.{◌≡◌, ◌≢◌, ℕ, ◌+◌, ◌-◌, ◌<◌, ◌≤◌, Bool, true, false, min, List, [], ◌∷◌, ◌++◌, length, take, drop, get_or, ltb, eqb, cond, inl, inr, refl, sym, ap, subst, ◌∙◌, arith}
-use Rattle.std.specs.Prelude.{Option, Some, None}
+use Rattle.std.specs.Prelude.{Some, None}
 use Rattle.std.specs.List.{All, position_or_len}
 use Rattle.std.specs.Str.Lines.{lines, strip_carriage_return}
 use Rattle.std.proofs.lemmas.Bool.{false_from_ne_true}
@@ -11,7 +11,6 @@ use Rattle.std.proofs.lemmas.List.Elements.{All-from_get_or, All-take}
 use Rattle.std.proofs.lemmas.List.Sums.{fails_before_first, passes_at_first}
 use Rattle.memchr.specs.Find.{IsFirstByte, is_byte}
 use Rattle.cs_base.specs.declared.content.limits.TheConstants.{MAX_SCRIPT_LINE_BYTES}
-use Rattle.cs_base.specs.outside.Outside.{File, size_of, bytes_of}
 use Rattle.cs_docs.specs.Lines.{Shows}
 use Rattle.cs_docs.proofs.LinesLemmas.{line_at, last_line}
 use Rattle.cs_top.specs.ScriptEndings.{IsFirstLine}
@@ -59,11 +58,6 @@ module _ (s : List ℕ) (n : ℕ) (long : n + 2 ≤ length s) (no_lf : (k : ℕ)
   -- without LF among its first bytes
   pub is_long : IsLong s n
   is_long = at_place _ refl
-
--- the size of a held file
-pub held_size : (f : Option File) (n : ℕ) → size_of f ≡ Some n → length (bytes_of f) ≡ n
-held_size None n h = absurd cc
-held_size (Some f) n h = cc
 
 module _ (b w tail : List ℕ) (at size room len next : ℕ) (whole : length b ≡ size) (before : at < size) (is_room : room ≡ min (size - at) (MAX_SCRIPT_LINE_BYTES + 2))
     (read : w ≡ take room (drop at b)) (within : len ≤ length w) where

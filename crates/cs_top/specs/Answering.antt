@@ -1,6 +1,7 @@
 -- What answers the lines of a script: an engine and the bytes of its index file, made in memory or held by the files.
 --
---   FileView                   an index file of the code: its bytes where they were made, else its name and size
+--   FileView                   an index file: its bytes where they were made, else its name and size
+--   home_seen f                an index file of the code
 --   bytes_there f held         the bytes that it tells; None where the files don't tell
 --   IsThere i f held           a file that fits the index
 --   AnswersOver e f held k     k is the corpus of an index file that stands for the engine's index, and what the engine keeps is good
@@ -26,8 +27,10 @@ use Rattle.cs_model.specs.Corpus.{Corpus}
 use Rattle.cs_model.specs.Outputs.{MayPut, IsAnswer, memory_text, read_text}
 use Rattle.cs_model.specs.Parameters.{request_refusal}
 use Rattle.cs_model_index.specs.Sections.{file_corpus}
+use Rattle.cs_indexing.specs.Met.{HasToldSize}
 use Rattle.cs_top.specs.HitForms.{AtHand, MayShow}
-use Rattle.cs_top.specs.Met.{HasToldSize}
+use Rattle.cs_top.specs.declared.answering.Home.{Home}
+use Rattle.cs_top.specs.declared.answering.Home.TheVariants as homes
 use Rattle.cs_top.specs.declared.script.WhatCame.{WhatCame}
 use Rattle.cs_top.specs.declared.script.WhatCame.TheVariants.{Answered, Read, Changed}
 use Rattle.cs_top.specs.declared.script.answers.Answer.{Answer}
@@ -38,6 +41,11 @@ pub record FileView : Type 0 where
   pub made : Option (List ℕ)
   pub name : List ℕ
   pub size : ℕ
+
+-- one that is made has no name
+abbrev pub home_seen : Home → FileView
+home_seen (homes.Memory s) = record { made = Some s.bytes; name = []; size = 0 }
+home_seen (homes.Files f) = record { made = None; name = f.name.now; size = f.size }
 
 -- those that were made, else those that the files tell; none of a name that isn't held
 abbrev pub bytes_there : FileView → Option Held → Option (List ℕ)

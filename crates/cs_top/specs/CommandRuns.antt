@@ -10,15 +10,15 @@ use Rattle.std.specs.Prelude.{◌≡◌, ◌⊎◌, ℕ, Option, Some, None}
 use Rattle.std.specs.Option.{ForSome}
 use Rattle.cs_base.specs.outside.Causes.{Rose}
 use Rattle.cs_base.specs.outside.Outside.{Held}
-use Rattle.cs_top.specs.Build.{BuildRan, CanBuild}
-use Rattle.cs_top.specs.CommandLine.{Command, build, ask, replay, serve, trial, upgrade, merge, live, Ending, usage}
+use Rattle.cs_indexing.specs.Build.{BuildRan, CanBuild}
+use Rattle.cs_indexing.specs.CommandLine.{Command, build, ask, replay, serve, trial, upgrade, merge, live, Ending, usage}
+use Rattle.cs_indexing.specs.Merge.{MergeRan, CanMerge}
+use Rattle.cs_indexing.specs.Met.{Met, LeavesAll}
+use Rattle.cs_indexing.specs.Upgrade.{UpgradeRan, CanUpgrade}
 use Rattle.cs_top.specs.LiveRuns.{LiveRan}
-use Rattle.cs_top.specs.Merge.{MergeRan, CanMerge}
-use Rattle.cs_top.specs.Met.{Met, LeavesAll}
 use Rattle.cs_top.specs.ScriptRuns.{AskRan, CanAsk, ReplayRan, CanReplay}
 use Rattle.cs_top.specs.Serve.{ServeRan, ServesAll, CanServe}
 use Rattle.cs_top.specs.Trial.{TrialRan}
-use Rattle.cs_top.specs.Upgrade.{UpgradeRan, CanUpgrade}
 
 -- a run that ends as x before it meets anything
 pub record Idle {H : Type 0} (x e : Ending) (m : Met H) : Type 0 where

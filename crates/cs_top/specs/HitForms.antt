@@ -37,8 +37,8 @@ use Rattle.cs_model.specs.Requests.{reply_of}
 use Rattle.cs_model.specs.Words.{words}
 use Rattle.cs_model_excerpts.specs.ExcerptReplies.{excerpted_text}
 use Rattle.cs_model_excerpts.specs.Excerpts.{excerpt, own_excerpt}
-use Rattle.cs_top.specs.declared.words.HitForm.{HitForm}
-use Rattle.cs_top.specs.declared.words.HitForm.TheVariants.{Titled, Excerpted}
+use Rattle.cs_indexing.specs.declared.words.HitForm.{HitForm}
+use Rattle.cs_indexing.specs.declared.words.HitForm.TheVariants.{Titled, Excerpted}
 
 -- ---- texts with excerpts
 -- for the empty query, and of a document that isn't there, it may be the empty text

@@ -17,9 +17,9 @@ use Rattle.cs_model.specs.Outputs.{IsChangedText, failed_reads, script_lines}
 use Rattle.cs_model_index.specs.Sections.{file_corpus, image_of}
 use Rattle.cs_model_live.specs.Courses.{Course}
 use Rattle.cs_model_live.specs.LiveStates.{LiveState, before_changes}
-use Rattle.cs_top.specs.CommandLine.{Ending}
+use Rattle.cs_indexing.specs.CommandLine.{Ending}
+use Rattle.cs_indexing.specs.Met.{Met, Wrote, held_bytes}
 use Rattle.cs_top.specs.LiveTexts.{IsLiveText}
-use Rattle.cs_top.specs.Met.{Met, Wrote, held_bytes}
 use Rattle.cs_top.specs.ScriptRuns.{CanBeOpened, IndexEnds, IndexScript, ReplayCaused, ReplayStops}
 
 -- over the corpus of the bytes, by their weights; of no lines no texts, and the state before the first change

@@ -9,10 +9,10 @@ use Rattle.cs_live_lines.specs.LineViews.{broken}
 use Rattle.cs_live_lines.specs.declared.document.LineRule.{LineRule}
 use Rattle.cs_model_live.specs.LiveLines.{absent_text, added_text, change_text, deleted_text, document_text, full_text}
 use Rattle.cs_model_live.specs.LiveStates.{Full}
+use Rattle.cs_indexing.specs.declared.words.HitForm.TheVariants.{Titled}
 use Rattle.cs_top.specs.PutTexts.{IsOwnText}
 use Rattle.cs_top.specs.declared.live.outcomes.Outcome.{Outcome}
 use Rattle.cs_top.specs.declared.live.outcomes.Outcome.TheVariants.{Line, Added, Deleted}
-use Rattle.cs_top.specs.declared.words.HitForm.TheVariants.{Titled}
 
 -- no change is named, no document has the number, the document breaks a rule of one line, there is no room for it, it is added, it is deleted
 abbrev pub IsOutcomeText : List ℕ → Type 0

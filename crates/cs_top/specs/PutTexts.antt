@@ -25,11 +25,11 @@ use Rattle.cs_file.specs.Indexes.{IndexView}
 use Rattle.cs_model.specs.Faults.{changed_text}
 use Rattle.cs_model.specs.Outputs.{IsChangedText, memory_text, put_of, read_text}
 use Rattle.cs_model.specs.Parameters.{RequestRefusal, refusal_text}
+use Rattle.cs_indexing.specs.CommandLine.{Ending, done, failed, script_refused, changed}
+use Rattle.cs_indexing.specs.Met.{Wrote}
+use Rattle.cs_indexing.specs.declared.words.HitForm.{HitForm}
 use Rattle.cs_top.specs.Answering.{came_of_answer, line_bytes}
-use Rattle.cs_top.specs.CommandLine.{Ending, done, failed, script_refused, changed}
 use Rattle.cs_top.specs.HitForms.{IsReplyIn}
-use Rattle.cs_top.specs.Met.{Wrote}
-use Rattle.cs_top.specs.declared.words.HitForm.{HitForm}
 use Rattle.cs_top.specs.declared.script.WhatCame.{WhatCame}
 use Rattle.cs_top.specs.declared.script.WhatCame.TheVariants.{Answered, Read, Changed}
 use Rattle.cs_top.specs.declared.script.answers.Answer.{Answer}

@@ -4,6 +4,7 @@
 --   MayPutAll                   which texts may be put for which lines
 --   ScriptEndsBy R e ls ts w    the script ended so, and the texts ts were put
 --   ScriptEnds A e ls ts w      the same, each text by its own line
+--   script_ending r             the ending of a run whose script ended so
 --   Tally came before now ts    a count of failures rose by at least as many as say that a read failed, and none does where none came
 --   ShortTally e w before now ts     the same of a script that ended early; where its end is a failure and out's count didn't rise, the
 --                               count rose once more
@@ -16,13 +17,15 @@
 --   EndsAt A e s p w ..           the script ends so at the line at that place
 --
 -- The last two numbers of what is said of a line are a count of the files' failures before and after it.
-use Rattle.std.specs.Prelude.{◌≡◌, ◌≢◌, ◌⊎◌, ℕ, ◌+◌, ◌≤◌, Bool, true, List, None, Some, ◌<◌, [], ◌∷◌, ◌++◌, length, drop, take, Option}
+use Rattle.std.specs.Prelude.{◌≡◌, ◌≢◌, ◌⊎◌, ℕ, ◌+◌, ◌≤◌, Bool, true, List, None, Some, ◌<◌, [], ◌∷◌, ◌++◌, length, drop, take, Option, Result, Ok, Err}
 use Rattle.cs_base.specs.outside.Causes.{Rose}
 use Rattle.cs_base.specs.outside.Outside.{Grew, GrewByPrefix}
 use Rattle.cs_hub.specs.Streams.{RoseBy}
 use Rattle.cs_model.specs.Outputs.{MayPut, OneEach, put_of, failed_reads, first_fault, readable_lines, line_fault}
-use Rattle.cs_top.specs.CommandLine.{Ending, done, failed, script_refused}
-use Rattle.cs_top.specs.Met.{Wrote}
+use Rattle.cs_indexing.specs.CommandLine.{Ending, changed, done, failed, script_refused}
+use Rattle.cs_indexing.specs.Met.{Wrote}
+use Rattle.cs_indexing.specs.Views.{of_script, stop_ending}
+use Rattle.cs_indexing.specs.declared.unread.ScriptStop.{ScriptStop}
 use Rattle.cs_top.specs.declared.script.WhatCame.{WhatCame}
 use Rattle.cs_top.specs.declared.script.WhatCame.TheVariants.{Read, Changed, Answered}
 use Rattle.std.specs.Str.Lines.{lines}
@@ -45,6 +48,13 @@ ScriptEndsBy R e ls ts w = ⊥
 -- one text a line
 abbrev pub ScriptEnds : MayPut → Ending → List (ℕ × List ℕ) → List (List ℕ) → Wrote → Type 0
 ScriptEnds A e ls ts w = ScriptEndsBy (OneEach A) e ls ts w
+
+-- where each line is answered all is done; a failed read is a failure, and a change has its own ending
+abbrev pub script_ending : Result WhatCame ScriptStop → Ending
+script_ending (Ok Answered) = done
+script_ending (Ok Read) = failed
+script_ending (Ok Changed) = changed
+script_ending (Err s) = stop_ending (of_script s)
 
 -- of no texts that the count didn't fall
 pub record Tally (came : WhatCame) (before now : ℕ) (ts : List (List ℕ)) : Type 0 where

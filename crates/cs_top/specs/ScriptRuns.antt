@@ -1,7 +1,6 @@
 -- What the commands do that answer a script: `ask COLLECTION SCRIPT`, `excerpts COLLECTION SCRIPT`, which differs by the form in which hits
 -- are shown, and `replay INDEX SCRIPT`.
 --
---   AreHeld h a b            both files are held
 --   IsReady h c s            the same, and the collection is accepted
 --   IsAskedOver h c s docs i      the same, of an image of its corpus, and with its documents at hand or none
 --   AskStops e h c s         what shows that `ask` or `excerpts` ended so before its script
@@ -28,11 +27,11 @@ use Rattle.cs_base.specs.outside.Outside.{Held, IsHeld}
 use Rattle.cs_model.specs.Collection.{weights}
 use Rattle.cs_model.specs.Corpus.{corpus, refusal, Corpus}
 use Rattle.cs_model.specs.Outputs.{IsAnswer, OneEach, script_lines, failed_reads}
-use Rattle.cs_top.specs.CommandLine.{Ending, usage, refused, absent, damaged, changed, failed, no_memory, Caused, done, script_refused}
+use Rattle.cs_indexing.specs.CommandLine.{Ending, usage, refused, absent, damaged, changed, failed, no_memory, Caused, done, script_refused}
+use Rattle.cs_indexing.specs.Filed.{IsFiled}
+use Rattle.cs_indexing.specs.Import.{IsRefusedAs, form_of}
+use Rattle.cs_indexing.specs.Met.{AreHeld, Met, Wrote, held_bytes}
 use Rattle.cs_top.specs.HitForms.{AreDocumentsOf, AtHand, IsAnswerIn}
-use Rattle.cs_top.specs.Filed.{IsFiled}
-use Rattle.cs_top.specs.Import.{IsRefusedAs, form_of}
-use Rattle.cs_top.specs.Met.{Met, Wrote, held_bytes}
 use Rattle.cs_top.specs.PutTexts.{EndsBy, EndsOf, IsOwnText, OwnText}
 use Rattle.cs_top.specs.ScriptEndings.{MayPutAll, ScriptEnds, ScriptEndsBy, IsReadable}
 use Rattle.cs_base.specs.outside.Causes.{Rose}
@@ -41,14 +40,10 @@ use Rattle.cs_model_index.specs.BlockRules.{broken_at}
 use Rattle.cs_model_index.specs.FileRules.{damage, IsIndexFile}
 use Rattle.cs_model_index.specs.Images.{Image}
 use Rattle.cs_model_index.specs.Sections.{file_corpus}
+use Rattle.cs_indexing.specs.declared.words.Form.TheVariants as forms
+use Rattle.cs_indexing.specs.declared.words.HitForm.{HitForm}
+use Rattle.cs_indexing.specs.declared.words.HitForm.TheVariants.{Titled}
 use Rattle.cs_top.specs.Answering.{IsReplayed}
-use Rattle.cs_top.specs.declared.words.Form.TheVariants as forms
-use Rattle.cs_top.specs.declared.words.HitForm.{HitForm}
-use Rattle.cs_top.specs.declared.words.HitForm.TheVariants.{Titled}
-
--- both files are held
-abbrev pub AreHeld : Held → List ℕ → List ℕ → Type 0
-AreHeld h a b = IsHeld (map.get h a) × IsHeld (map.get h b)
 
 -- ---- `ask` and `excerpts` over files that tell
 

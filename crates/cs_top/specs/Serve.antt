@@ -37,8 +37,8 @@ use Rattle.cs_model_index.specs.FileRules.{damage, IsIndexFile}
 use Rattle.cs_model_index.specs.Sections.{file_corpus}
 use Rattle.cs_model_serving.specs.Connections.{answers}
 use Rattle.cs_model_serving.specs.Responses.{Response, all_bytes, memory_bytes}
-use Rattle.cs_top.specs.CommandLine.{Ending, done, absent, damaged, failed, no_memory}
-use Rattle.cs_top.specs.Met.{Listened, Met, Wrote, held_bytes}
+use Rattle.cs_indexing.specs.CommandLine.{Ending, done, absent, damaged, failed, no_memory}
+use Rattle.cs_indexing.specs.Met.{Listened, Met, Wrote, held_bytes}
 
 -- the line with the word of the port, as it stands in the command; zeros in front of it stay
 abbrev pub serving_line : List ℕ → List ℕ

@@ -4,14 +4,12 @@
 --   with_one_reply p n c     the counts c and one reply more, by its plan and its hits
 --   sizes_of c               what counts say of a collection
 --   AddUp k qs c             counts are those of the replies to queries
---   HasSizes k docs count    a corpus has so many documents and rows
 --   HasAsked b qs e c        how an engine stands and what is counted after queries, over the bytes of its index
 --   IsSteady b b' e e'       what is asked over stays
 --   AreFew n c               no more than n replies were counted
 --   TrialEnds e n w          how it may end, and what is put
 --   TrialRan e n m           a whole run
 use Rattle.std.specs.Prelude.{◌≡◌, ℕ, ◌+◌, ◌*◌, ◌^◌, ◌≤◌, List, [], ◌∷◌, length}
-use Rattle.std.specs.FinMap as map
 use Rattle.cs_base.specs.outside.Outside.{Grew, GrewByPrefix}
 use Rattle.cs_base.specs.declared.content.query.Query.{Query}
 use Rattle.cs_base.specs.declared.index.plan.Plan.{Plan}
@@ -24,8 +22,8 @@ use Rattle.cs_model_index.specs.Sections.{file_corpus}
 use Rattle.cs_model_kept.specs.KeptList.{KeptList, after_own, kept_at, is_same}
 use Rattle.cs_model_kept.specs.declared.limits.TheConstants.{MAX_ENTRIES}
 use Rattle.cs_model_trial.specs.Summary.{IsSummary, counted, hits_found, is_extend, is_fresh, is_narrow, trial_plans}
-use Rattle.cs_top.specs.CommandLine.{Ending, done, failed, no_memory, CausedBy}
-use Rattle.cs_top.specs.Met.{Met, Wrote}
+use Rattle.cs_indexing.specs.CommandLine.{Ending, done, failed, no_memory, CausedBy}
+use Rattle.cs_indexing.specs.Met.{Met, Wrote}
 use Rattle.cs_trial.specs.declared.counts.TrialCounts.{TrialCounts}
 
 -- what is kept after queries that are asked one after the other; of no queries the list itself
@@ -52,11 +50,6 @@ pub record AddUp (k : Corpus) (qs : List Query) (c : TrialCounts) : Type 0 where
   pub narrow : c.narrow ≡ counted is_narrow (trial_plans k qs)
   pub extend : c.extend ≡ counted is_extend (trial_plans k qs)
   pub fresh : c.fresh ≡ counted is_fresh (trial_plans k qs)
-
--- the titles and the rows of a corpus are so many, of the empty one 0
-pub record HasSizes (k : Corpus) (docs count : ℕ) : Type 0 where
-  pub documents : docs ≡ length (map.keys k.titles)
-  pub rows : count ≡ length k.rows
 
 -- the engine's index is that of the bytes, what it keeps is good and is what the queries leave of nothing kept, and the counts are those
 -- of the replies

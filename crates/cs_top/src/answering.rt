@@ -5,10 +5,10 @@ ghost use Rattle.cs_hub.specs.Outcomes.{IsOutcome, IsRightOutcome, TellsChange, 
 ghost use Rattle.cs_model.specs.Corpus.{Corpus};
 ghost use Rattle.cs_top.specs.Answering.{AnswersOver, IsThere, bytes_there};
 
-use crate::files::HeldFile;
 use cs_base::{FileStore, Files, MemStore};
 use cs_engine::Engine;
 use cs_hub::{RequestOutcome, outcome_over};
+use cs_indexing::HeldFile;
 use std::alloc::Global;
 use std::marker::Model;
 
@@ -28,8 +28,7 @@ enum Home<'a> {
 }
 
 impl<'a> Model for IndexFile<'a> {
-    ghost use Rattle.cs_top.specs.Answering.{FileView};
-    ghost use Rattle.cs_top.specs.Views.{home_seen};
+    ghost use Rattle.cs_top.specs.Answering.{FileView, home_seen};
 
     ghost Value = { FileView };
 

@@ -3,25 +3,21 @@
 ghost use Rattle.std.specs.Prelude.{◌≡◌, ℕ, List, None, IfOk, IfErr, OnOk};
 ghost use Rattle.std.specs.Option.{ForSome};
 ghost use Rattle.cs_model.specs.{Collection.{weights}, Corpus.{corpus, refusal}};
+ghost use Rattle.cs_indexing.specs.CommandLine.{Caused};
+ghost use Rattle.cs_indexing.specs.Filed.{HasFile, IsFiled};
+ghost use Rattle.cs_indexing.specs.Met.{HasToldSize, OfBytes, Wrote, wrote};
+ghost use Rattle.cs_indexing.specs.Views.{IsSized, ReadsFiles, ended, stop_ending};
+ghost use Rattle.cs_indexing.specs.declared.words.HitForm.{HitForm};
 ghost use Rattle.cs_top.specs.ScriptRuns.{AskEnds, AskStops, AskTold, IsAskedOver, IsReady};
-ghost use Rattle.cs_top.specs.CommandLine.{Caused};
 ghost use Rattle.cs_top.specs.HitForms.{form_by};
-ghost use Rattle.cs_top.specs.Filed.{HasFile, IsFiled};
-ghost use Rattle.cs_top.specs.Met.{HasToldSize, OfBytes, Wrote, wrote};
-ghost use Rattle.cs_top.specs.Views.{IsSized, ReadsFiles, ended, stop_ending};
-ghost use Rattle.cs_top.specs.declared.words.HitForm.{HitForm};
 
 use crate::answering::IndexFile;
-use crate::collection::documents_of;
-use crate::ending::RunStop;
-use crate::files::{HeldFile, told_size};
 use crate::opening::open_image;
 use crate::script::{WhatCame, answer_script};
-use crate::showing::Showing;
-use crate::sources::read_collection;
-use crate::words::HitForm;
+use crate::showing::{Showing, documents_of};
 use cs_base::{Files, Sink};
 use cs_file::Image;
+use cs_indexing::{HeldFile, HitForm, RunStop, read_collection, told_size};
 use std::alloc::Global;
 
 /// Answers each line of a script over a collection, whose hits are shown in this form.

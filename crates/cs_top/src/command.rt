@@ -1,22 +1,20 @@
 //! The top call: all that the program does.
 ghost use Rattle.std.specs.Prelude.{◌≡◌, map};
 ghost use Rattle.std.specs.String.{string_bytes};
-ghost use Rattle.cs_top.specs.CommandLine.{command_of, Ending, status, line_of, SaysLine};
-ghost use Rattle.cs_top.specs.Met.{met, wrote};
+ghost use Rattle.cs_indexing.specs.CommandLine.{command_of, Ending, status, line_of, SaysLine};
+ghost use Rattle.cs_indexing.specs.Met.{met, wrote};
+ghost use Rattle.cs_indexing.specs.Views.{ended};
 ghost use Rattle.cs_top.specs.CommandRuns.{Completes, Ran};
-ghost use Rattle.cs_top.specs.Views.{ended};
 
 use crate::ask::ask;
-use crate::build::build;
-use crate::ending::{RunStop, status_of, tell};
 use crate::live::live_script;
-use crate::merge::merge_indexes;
 use crate::replay::replay;
 use crate::serve::serve_index;
 use crate::trial::trial;
-use crate::upgrade::upgrade;
-use crate::words::{Command, command_of};
 use cs_base::{Files, Hub, Sink};
+use cs_indexing::{
+    Command, RunStop, build_index, command_of, merge_indexes, status_of, tell, upgrade_index,
+};
 use std::alloc::Global;
 
 /// Does what the words ask for, and answers the exit status.
@@ -65,7 +63,7 @@ fn carry_out<'a, F: Files, H: Hub, O: Sink>(
                 source,
                 index,
             },
-        ) => build(alloc, form, source, index, files),
+        ) => build_index(alloc, form, source, index, files),
         Some(
             Command::Ask {
                 form,
@@ -78,7 +76,7 @@ fn carry_out<'a, F: Files, H: Hub, O: Sink>(
             serve_index(alloc, index, port, conns, files, hub, out)
         }
         Some(Command::Trial { number }) => trial(alloc, number, out),
-        Some(Command::Upgrade { index, new }) => upgrade(alloc, index, new, files),
+        Some(Command::Upgrade { index, new }) => upgrade_index(alloc, index, new, files),
         Some(Command::Merge { first, second, new }) => merge_indexes(
             alloc, first, second, new, files,
         ),

@@ -3,16 +3,14 @@ ghost use Rattle.std.specs.Prelude.{◌≡◌, ◌≢◌, ◌<◌, ◌≤◌, Al
 ghost use Rattle.std.specs.Option.{option_map};
 ghost use Rattle.cs_base.specs.content.Bytes.{line_feed};
 ghost use Rattle.cs_base.specs.outside.Causes.{Counted};
-ghost use Rattle.cs_docs.specs.FaultRefusals.{reason_text};
 ghost use Rattle.cs_model.specs.Collection.{without_mark};
-ghost use Rattle.cs_model.specs.Outputs.{fault_words, line_fault};
+ghost use Rattle.cs_model.specs.Outputs.{line_fault};
+ghost use Rattle.cs_indexing.specs.Views.{IsSized, OfFile, fault_seen};
 ghost use Rattle.cs_top.specs.ScriptEndings.{IsFirstLine};
-ghost use Rattle.cs_top.specs.Views.{IsSized, OfFile, fault_seen};
-ghost use Rattle.cs_top.specs.declared.lines.ScriptStop.{ScriptStop};
 
-use crate::files::HeldFile;
 use cs_base::{Failed, Files, MAX_SCRIPT_LINE_BYTES};
-use cs_docs::{BYTE_ORDER_MARK, Reason, first_end};
+use cs_docs::{BYTE_ORDER_MARK, first_end};
+use cs_indexing::{HeldFile, ScriptFault};
 use std::str;
 
 /// How many bytes the mark in front of a text has.
@@ -20,56 +18,6 @@ const MARK_BYTES: usize = BYTE_ORDER_MARK.len();
 
 /// The most bytes of a line with CR and LF behind it.
 pub(crate) const WINDOW_BYTES: usize = MAX_SCRIPT_LINE_BYTES + 2;
-
-/// Why a script ends before its last line.
-#[derive(Clone, Copy, Debug, PartialEq, Eq)]
-pub(crate) enum ScriptStop {
-    /// A line can't be read.
-    Unread(ScriptFault),
-    /// A call of files or of standard output failed.
-    Failed,
-}
-
-/// Why a line of a script can't be read.
-#[derive(Clone, Copy, Debug, PartialEq, Eq)]
-pub(crate) enum ScriptFault {
-    /// It has more than `MAX_SCRIPT_LINE_BYTES` without its ending.
-    TooLong {
-        /// Its number from 1 among all lines.
-        line: u64,
-    },
-    /// It isn't UTF-8.
-    NotUtf8 {
-        /// Its number from 1 among all lines.
-        line: u64,
-    },
-}
-
-impl ScriptFault {
-    /// What is said of it.
-    pub(crate) fn reason(self) -> Reason<'static>
-        ensures { reason_text result ≡ fault_words (fault_seen self) }
-    {
-        match self {
-            ScriptFault::TooLong { line } => Reason {
-                line: Some(line),
-                words: b"too long",
-            },
-            ScriptFault::NotUtf8 { line } => Reason {
-                line: Some(line),
-                words: b"not UTF-8",
-            },
-        }
-    }
-}
-
-impl From<Failed> for ScriptStop {
-    ghost from_gives = { λ _ stop. stop ≡ ScriptStop.Failed };
-
-    fn from(_: Failed) -> ScriptStop {
-        ScriptStop::Failed
-    }
-}
 
 /// Where the next line of a file begins.
 #[derive(Clone, Copy, Debug, PartialEq, Eq)]

@@ -5,14 +5,13 @@ ghost use Rattle.cs_engine.specs.Keeping.{AreGood};
 ghost use Rattle.cs_file.specs.Indexes.{HasAllBlocks, StandsFor};
 ghost use Rattle.cs_model_index.specs.Layout.{file};
 ghost use Rattle.cs_model_kept.specs.declared.limits.TheConstants.{MAX_ENTRIES};
-ghost use Rattle.cs_top.specs.Filed.{HasFile};
-ghost use Rattle.cs_top.specs.Views.{IsDamage, IsOfIndex, IsSized, OfFile, ReadsFiles};
+ghost use Rattle.cs_indexing.specs.Filed.{HasFile};
+ghost use Rattle.cs_indexing.specs.Views.{IsDamage, IsOfIndex, IsSized, OfFile, ReadsFiles};
 
-use crate::ending::RunStop;
-use crate::files::HeldFile;
-use cs_base::{FileStore, Files, MemSink, MemStore, Memory};
+use cs_base::{Files, MemSink, MemStore, Memory};
 use cs_engine::Engine;
-use cs_file::{Image, Index, OpenFault, WriteFault, file_size, index_of, open_index, write_index};
+use cs_file::{Image, Index, WriteFault, file_size, index_of, write_index};
+use cs_indexing::{HeldFile, RunStop, open_held};
 use cs_model_kept::MAX_ENTRIES;
 use std::alloc::Global;
 
@@ -34,29 +33,6 @@ pub(crate) fn open<'a, F: Files>(
     let index = open_held(alloc, files, index)?;
     let engine = engine_of(alloc, index)?;
     Ok(engine)
-}
-
-/// The index of an index file.
-pub(crate) fn open_held<'a, F: Files>(
-    alloc: Global,
-    files: &mut F,
-    index: HeldFile<'_>,
-) -> Result<Index, RunStop<'a>>
-    requires size { IsSized (F.held files.old) index }
-
-    ensures ok { OfFile (F.held files.old) index.entry (λ b. IfOk result (StandsFor b)) }
-    ensures damaged { OfFile (F.held files.old) index.entry (λ b. IfErr result (IsDamage b)) }
-    ensures fits { IfOk result (HasAllBlocks (file_bytes (F.held files.new) index.entry.name.now)) }
-    ensures kind { IfErr result IsOfIndex }
-    ensures reads { ReadsFiles (F.held files.old) (F.held files.new) (F.faults files.old) (F.faults files.new) result }
-{
-    let mut store = FileStore::new(files, index.name, index.size);
-    match open_index(alloc, &mut store) {
-        Ok(index) => Ok(index),
-        Err(OpenFault::Damaged { rule, at }) => Err(RunStop::Damaged { rule, at }),
-        Err(OpenFault::Read) => Err(RunStop::Failed),
-        Err(OpenFault::Memory) => Err(RunStop::Memory),
-    }
 }
 
 // The engine of an index, with room for as many answers as there may be.

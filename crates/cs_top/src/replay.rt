@@ -1,17 +1,16 @@
 //! `replay INDEX SCRIPT`: a script that is answered over an index file.
 ghost use Rattle.std.specs.Prelude.{◌≡◌};
 ghost use Rattle.std.specs.Option.{ForSome};
-ghost use Rattle.cs_top.specs.Met.{wrote};
+ghost use Rattle.cs_indexing.specs.Met.{wrote};
+ghost use Rattle.cs_indexing.specs.Views.{ended};
 ghost use Rattle.cs_top.specs.ScriptRuns.{ReplayCaused, ReplayEnds, ReplayTold};
-ghost use Rattle.cs_top.specs.Views.{ended};
 
 use crate::answering::IndexFile;
-use crate::ending::{RunStop, end_of_run};
-use crate::files::{HeldFile, told_size};
 use crate::opening::open;
-use crate::script::answer_script;
+use crate::script::{answer_script, end_of_run};
 use crate::showing::Showing;
 use cs_base::{Files, Sink};
+use cs_indexing::{HeldFile, RunStop, told_size};
 use std::alloc::Global;
 
 /// Answers each line of a script over an index file. Where a read fails, or the file changed, the line has the text of that, and

@@ -9,19 +9,16 @@ ghost use Rattle.cs_engine.specs.Keeping.{AreGood};
 ghost use Rattle.cs_file.specs.Indexes.{HasAllBlocks, StandsFor};
 ghost use Rattle.cs_hub.specs.{Ending.{EndsSo}, HubFollowing.{AreServed}, Speaking.{AreUnbroken}};
 ghost use Rattle.cs_model_index.specs.Sections.{file_corpus};
-ghost use Rattle.cs_top.specs.CommandLine.{is_number};
-ghost use Rattle.cs_top.specs.Met.{HasToldSize, Listened, OfBytes, Wrote, listened, wrote};
+ghost use Rattle.cs_indexing.specs.CommandLine.{is_number};
+ghost use Rattle.cs_indexing.specs.Met.{HasToldSize, Listened, OfBytes, Wrote, listened, wrote};
+ghost use Rattle.cs_indexing.specs.Views.{IsSized, OfFile, ReadsFiles, ended, stop_ending};
 ghost use Rattle.cs_top.specs.Serve.{CanServe, HasToldPort, HasStopped, IsListening, IsUntouched, ServeCaused, ServeEnds, ServeTold, serving_line};
-ghost use Rattle.cs_top.specs.Views.{IsSized, OfFile, ReadsFiles, ended, stop_ending};
 
-use crate::ending::RunStop;
-use crate::files::{HeldFile, told_size};
 use crate::opening::open;
-use crate::said::put_all;
-use crate::words::{conns_of, port_of};
 use cs_base::{Failed, FileStore, Files, Hub, Sink};
 use cs_engine::Engine;
 use cs_hub::ServeEnd;
+use cs_indexing::{HeldFile, RunStop, conns_of, port_of, put_all, told_size};
 use std::alloc::Global;
 
 /// Answers what comes on so many connections over an index file, until all were opened and none is live, or nothing more comes.

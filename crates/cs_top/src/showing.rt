@@ -1,10 +1,12 @@
 //! How the hits of replies are shown: with their titles alone, or with excerpts of their documents too.
 ghost use Rattle.std.specs.Prelude.{◌≡◌, None, Some, IfOk, map};
 ghost use Rattle.cs_docs.specs.LinesRead.{doc_of_lent};
+ghost use Rattle.cs_model.specs.{Collection.{documents}, Corpus.{refusal}};
 ghost use Rattle.cs_top.specs.HitForms.{HaveFewWords, hit_excerpts, own_excerpt_at, shown_reply};
 
 use cs_base::{Memory, Query, Seq, Text};
-use cs_docs::LentDoc;
+use cs_docs::{LentDoc, lent_docs};
+use cs_indexing::{CollectionFault, want_of};
 use cs_json::{excerpt_bytes, reply_bytes};
 use cs_more::lent_excerpt;
 use cs_query::{HitShown, Reply};
@@ -64,6 +66,19 @@ impl<'a> Showing<'a> {
             None => reply_bytes(self.alloc, reply),
             Some(docs) => excerpted_bytes(self.alloc, docs, query, reply),
         }
+    }
+}
+
+/// The documents of a collection that is accepted, lent from its bytes: nothing but want of memory keeps them from being read.
+pub(crate) fn documents_of(alloc: Global, bytes: &[u8]) -> Result<Vec<LentDoc<'_>>, Memory>
+    requires accepted { refusal bytes.now ≡ None }
+
+    ensures ok { IfOk result (λ docs. map doc_of_lent docs.items ≡ documents bytes.now) }
+    ensures few { IfOk result (λ docs. HaveFewWords (Some (map doc_of_lent docs.items))) }
+{
+    match lent_docs(alloc, bytes) {
+        Ok(collected) => Ok(collected.docs),
+        Err(fault) => Err(want_of(CollectionFault::Documents(fault))),
     }
 }
 

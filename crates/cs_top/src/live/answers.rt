@@ -10,24 +10,24 @@ ghost use Rattle.cs_model.specs.Weights.{AreWeights};
 ghost use Rattle.cs_model_index.specs.Sections.{file_corpus, image_of};
 ghost use Rattle.cs_model_live.specs.LiveLines.{added_outcome, by_refusals, deleted_outcome};
 ghost use Rattle.cs_model_live.specs.LiveStates.{LiveState, full_refusal};
+ghost use Rattle.cs_indexing.specs.CommandLine.{CausedBy};
+ghost use Rattle.cs_indexing.specs.Met.{wrote};
+ghost use Rattle.cs_indexing.specs.Views.{IsSized, of_script, stop_ending};
 ghost use Rattle.cs_top.specs.Answering.{CameCounts};
-ghost use Rattle.cs_top.specs.CommandLine.{CausedBy};
 ghost use Rattle.cs_top.specs.LiveAnswering.{IsLiveAt, LiveOver, StaysIndex, Tells};
 ghost use Rattle.cs_top.specs.LiveSteps.{LineText, LivePasses};
 ghost use Rattle.cs_top.specs.LiveTexts.{HasOutcomeText, IsLiveText};
-ghost use Rattle.cs_top.specs.Met.{wrote};
 ghost use Rattle.cs_top.specs.PutTexts.{CutsLineOf, PutsLineOf};
 ghost use Rattle.cs_top.specs.ScriptEndings.{StopsAt};
-ghost use Rattle.cs_top.specs.Views.{IsSized, of_script, stop_ending};
 
 use super::asking::outcome_now;
 use super::outcomes::{Outcome, put_outcome};
-use crate::files::HeldFile;
-use crate::lines::{ScriptStop, line_fault};
+use crate::lines::line_fault;
 use crate::script::WhatCame;
 use crate::script::answers::{answer_by, memory_line, put_answer};
 use crate::showing::Showing;
 use cs_base::{Doc, Files, Sink};
+use cs_indexing::{HeldFile, ScriptStop};
 use cs_live::{AddFault, Live, RemoveFault};
 use cs_live_lines::{
     DocumentFault, Full, LiveLine, absent_line, added_document, change_line, doc_number, full_line,

@@ -4,13 +4,13 @@ ghost use Rattle.cs_base.specs.outside.Outside.{file_bytes};
 ghost use Rattle.cs_file.specs.Indexes.{CausedReads, HasAllBlocks};
 ghost use Rattle.cs_hub.specs.Outcomes.{ComesOf, IsRightOutcome, fails_read};
 ghost use Rattle.cs_model_live.specs.LiveStates.{LiveState};
+ghost use Rattle.cs_indexing.specs.Views.{IsSized};
 ghost use Rattle.cs_top.specs.LiveAnswering.{LiveLeaves, LiveOver, StaysIndex, live_standing};
-ghost use Rattle.cs_top.specs.Views.{IsSized};
 
-use crate::files::HeldFile;
 use cs_base::{FileStore, Files};
 use cs_engine::AskFault;
 use cs_hub::{Answerer, RequestOutcome, outcome_of};
+use cs_indexing::HeldFile;
 use cs_live::Live;
 use cs_query::{Reply, Request};
 use std::alloc::Global;

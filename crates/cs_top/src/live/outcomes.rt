@@ -4,15 +4,14 @@ ghost use Rattle.cs_base.specs.content.Bytes.{line_feed};
 ghost use Rattle.cs_base.specs.outside.Causes.{Counted};
 ghost use Rattle.cs_base.specs.outside.Outside.{Grew, GrewByPrefix};
 ghost use Rattle.cs_model_live.specs.LiveLines.{added_text, deleted_text};
-ghost use Rattle.cs_top.specs.CommandLine.{CausedBy};
+ghost use Rattle.cs_indexing.specs.CommandLine.{CausedBy};
+ghost use Rattle.cs_indexing.specs.Views.{of_script, stop_ending};
 ghost use Rattle.cs_top.specs.LiveTexts.{told_bytes};
-ghost use Rattle.cs_top.specs.Views.{of_script, stop_ending};
 ghost use Rattle.cs_top.specs.declared.script.WhatCame.TheVariants.{Answered};
 
-use crate::lines::ScriptStop;
-use crate::said::put_all;
 use crate::script::WhatCame;
 use cs_base::{Failed, Sink};
+use cs_indexing::{ScriptStop, put_all};
 use itoa::Buffer;
 
 /// What becomes of a line that adds or deletes a document.

@@ -2,23 +2,23 @@
 ghost use Rattle.std.specs.Prelude.{◌≡◌, ◌<◌, ◌≤◌, ℕ, List, IfOk, IfErr, OnOk, is_some};
 ghost use Rattle.cs_model.specs.Corpus.{Corpus};
 ghost use Rattle.cs_model.specs.Outputs.{script_lines};
+ghost use Rattle.cs_indexing.specs.CommandLine.{done};
+ghost use Rattle.cs_indexing.specs.Met.{wrote};
+ghost use Rattle.cs_indexing.specs.Views.{IsSized, OfFile, ended, of_script, stop_ending};
 ghost use Rattle.cs_top.specs.Answering.{AnswersOver, CameOver, IsThere, MayAnswer, StaysOver, worst};
-ghost use Rattle.cs_top.specs.CommandLine.{done};
 ghost use Rattle.cs_top.specs.HitForms.{form_by};
-ghost use Rattle.cs_top.specs.Met.{wrote};
 ghost use Rattle.cs_top.specs.PutTexts.{CutsLine, EndsBy, PutsLine, PutsTexts};
-ghost use Rattle.cs_top.specs.ScriptEndings.{ScriptCaused, ScriptEnds, ShortTally, Tally, Reaches, EndsAt};
-ghost use Rattle.cs_top.specs.Views.{IsSized, OfFile, of_script, stop_ending};
+ghost use Rattle.cs_top.specs.ScriptEndings.{ScriptCaused, ScriptEnds, ShortTally, Tally, Reaches, EndsAt, script_ending};
 
 pub(crate) mod answers;
 
 use crate::answering::IndexFile;
-use crate::files::HeldFile;
-use crate::lines::{Place, ScriptStop, WINDOW_BYTES, first_place, read_line};
+use crate::lines::{Place, WINDOW_BYTES, first_place, read_line};
 use crate::showing::Showing;
 use answers::answer_line;
 use cs_base::{Files, Sink};
 use cs_engine::Engine;
+use cs_indexing::{HeldFile, RunStop, ScriptStop};
 
 /// What came of the lines of a script so far.
 #[derive(Clone, Copy, Debug, PartialEq, Eq)]
@@ -41,6 +41,18 @@ impl WhatCame {
             (WhatCame::Changed, _) | (_, WhatCame::Changed) => WhatCame::Changed,
             (WhatCame::Answered, WhatCame::Answered) => WhatCame::Answered,
         }
+    }
+}
+
+/// How a run ends whose script ended so. A failed read and a change are told in their lines, but not all is done.
+pub(crate) fn end_of_run(script: Result<WhatCame, ScriptStop>) -> Result<(), RunStop<'static>>
+    ensures { ended result ≡ script_ending script }
+{
+    match script {
+        Ok(WhatCame::Answered) => Ok(()),
+        Ok(WhatCame::Read) => Err(RunStop::Failed),
+        Ok(WhatCame::Changed) => Err(RunStop::Changed),
+        Err(stop) => Err(RunStop::from(stop)),
     }
 }
 

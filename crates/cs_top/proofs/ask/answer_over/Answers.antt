@@ -5,18 +5,18 @@ use Rattle.cs_model.specs.Corpus.{Corpus, corpus}
 use Rattle.cs_model.specs.Outputs.{script_lines}
 use Rattle.cs_model_index.specs.Layout.{file}
 use Rattle.cs_model_index.specs.Sections.{file_corpus}
+use Rattle.cs_indexing.specs.CommandLine.{Ending, done, no_memory}
+use Rattle.cs_indexing.specs.Met.{Wrote, held_bytes, wrote}
+use Rattle.cs_indexing.specs.Views.{ended, of_script, stop_ending}
 use Rattle.cs_top.specs.Answering.{AnswersOver, CameOver, MayAnswer}
-use Rattle.cs_top.specs.CommandLine.{Ending, done, no_memory}
 use Rattle.cs_top.specs.HitForms.{IsAnswerIn, form_by}
-use Rattle.cs_top.specs.Met.{Wrote, held_bytes, wrote}
 use Rattle.cs_top.specs.PutTexts.{PutsTexts}
 use Rattle.cs_top.specs.ScriptEndings.{ScriptEnds, ShortTally, Tally}
 use Rattle.cs_top.specs.ScriptRuns.{AskEnds, AskTold, IsAskedOver}
-use Rattle.cs_top.specs.Views.{ended, of_script, stop_ending}
 use Rattle.cs_top.specs.declared.script.WhatCame.{WhatCame}
 use Rattle.cs_top.specs.declared.script.WhatCame.TheVariants.{Answered, Read, Changed}
 use Rattle.cs_top.proofs.ShownLemmas.{shown_in}
-use Rattle.cs_top.proofs.StopLemmas.{short_by}
+use Rattle.cs_top.proofs.ScriptStops.{short_by}
 use Rattle.cs_top.proofs.ScriptLemmas.{ends_by, err_there, made_only, ok_there, over_made, some_made, there_made}
 use Rattle.cs_top.proofs.ask.answer_over.Given as given
 use Rattle.cs_top.proofs.ask.answer_over.Goals as goal

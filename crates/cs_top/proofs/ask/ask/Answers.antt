@@ -3,12 +3,12 @@ use Rattle.std.specs.Prelude.{Some}
 use Rattle.cs_model.specs.Collection.{documents, weights}
 use Rattle.cs_model.specs.Corpus.{corpus}
 use Rattle.cs_docs.specs.LinesRead.{doc_of_lent}
-use Rattle.cs_top.specs.Filed.{IsFiled}
+use Rattle.cs_indexing.specs.Filed.{IsFiled}
+use Rattle.cs_indexing.specs.Met.{held_bytes, wrote}
+use Rattle.cs_indexing.specs.Views.{ended}
+use Rattle.cs_indexing.specs.declared.words.HitForm.{HitForm}
 use Rattle.cs_top.specs.HitForms.{AreDocumentsOf, AtHand, form_by}
-use Rattle.cs_top.specs.Met.{held_bytes, wrote}
 use Rattle.cs_top.specs.ScriptRuns.{AskEnds, AskTold, IsAskedOver}
-use Rattle.cs_top.specs.Views.{ended}
-use Rattle.cs_top.specs.declared.words.HitForm.{HitForm}
 use Rattle.cs_top.proofs.ask.ask.Goals as goal
 
 pub returns-in-Titled-clause-ends : goal.returns-in-Titled-clause-ends

@@ -1,11 +1,12 @@
 use Rattle.std.proofs.Common.{◌≡◌, ◌∙◌, inl, inr, refl, rules}
-use Rattle.cs_top.specs.Met.{Wrote, held_bytes}
-use Rattle.cs_top.specs.ScriptRuns.{AreHeld, AskEnds, AskStops}
-use Rattle.cs_top.specs.Views.{stop_ending}
-use Rattle.cs_top.specs.declared.words.Form.TheVariants as forms
-use Rattle.cs_top.specs.declared.words.HitForm.{HitForm}
-use Rattle.cs_top.proofs.ScriptLemmas.{held_by}
-use Rattle.cs_top.proofs.StopLemmas.{ask_absent, ask_refused, caused_by}
+use Rattle.cs_indexing.specs.Met.{Wrote, held_bytes, AreHeld}
+use Rattle.cs_indexing.specs.Views.{stop_ending}
+use Rattle.cs_indexing.specs.declared.words.Form.TheVariants as forms
+use Rattle.cs_indexing.specs.declared.words.HitForm.{HitForm}
+use Rattle.cs_indexing.proofs.SizedFiles.{held_by}
+use Rattle.cs_indexing.proofs.StopLemmas.{caused_by}
+use Rattle.cs_top.specs.ScriptRuns.{AskEnds, AskStops}
+use Rattle.cs_top.proofs.ScriptStops.{ask_absent, ask_refused}
 use Rattle.cs_top.proofs.ask.prepare.Goals as goal
 
 pub returns-in_err-size-clause-ends : goal.returns-in_err-size-clause-ends

@@ -1,9 +1,9 @@
 use Rattle.std.proofs.Common.{◌≡◌, ◌∙◌, Some, ap, map, subst, sym}
 use Rattle.std.specs.String.{string_bytes}
-use Rattle.cs_top.specs.CommandLine.{command_of, serve}
-use Rattle.cs_top.specs.Met.{met}
+use Rattle.cs_indexing.specs.CommandLine.{command_of, serve}
+use Rattle.cs_indexing.specs.Met.{met}
+use Rattle.cs_indexing.specs.Views.{HasNumbers, ended, seen_command}
 use Rattle.cs_top.specs.CommandRuns.{Ran}
-use Rattle.cs_top.specs.Views.{HasNumbers, ended, seen_command}
 use Rattle.cs_top.proofs.ServeEndings.{ran_by}
 use Rattle.cs_top.proofs.command.carry_out.Goals as goal
 

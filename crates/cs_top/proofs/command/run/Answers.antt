@@ -1,10 +1,10 @@
 use Rattle.std.proofs.Common.{ℕ, sym, subst}
 use Rattle.std.specs.Prelude.{map}
 use Rattle.std.specs.String.{string_bytes}
-use Rattle.cs_top.specs.CommandLine.{command_of}
-use Rattle.cs_top.specs.Met.{met}
+use Rattle.cs_indexing.specs.CommandLine.{command_of}
+use Rattle.cs_indexing.specs.Met.{met}
+use Rattle.cs_indexing.specs.Views.{ended}
 use Rattle.cs_top.specs.CommandRuns.{Completes}
-use Rattle.cs_top.specs.Views.{ended}
 use Rattle.cs_top.proofs.CompleteLemmas.{completes}
 use Rattle.cs_top.proofs.command.run.Goals as goal
 

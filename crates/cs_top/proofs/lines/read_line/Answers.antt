@@ -1,8 +1,9 @@
 use Rattle.std.proofs.Common.{◌≡◌, ap, ◌∙◌, arith, length, take, drop}
 use Rattle.std.proofs.lemmas.List.{length-take}
 use Rattle.std.specs.FinMap as map
-use Rattle.cs_top.specs.Met.{held_bytes}
-use Rattle.cs_top.proofs.WindowLemmas.{held_size, no_feed, window_line}
+use Rattle.cs_indexing.specs.Met.{held_bytes}
+use Rattle.cs_indexing.proofs.SizedFiles.{held_size}
+use Rattle.cs_top.proofs.WindowLemmas.{no_feed, window_line}
 use Rattle.cs_top.proofs.lines.read_line.Goals as goal
 
 pub returns-clause-line : goal.returns-clause-line

@@ -7,22 +7,22 @@ use Rattle.cs_model.specs.Outputs.{script_lines}
 use Rattle.cs_model.specs.Words.{is_filled}
 use Rattle.cs_model_index.specs.Sections.{file_corpus}
 use Rattle.cs_model_live.specs.LiveStates.{before_changes}
+use Rattle.cs_indexing.specs.CommandLine.{failed}
+use Rattle.cs_indexing.specs.Met.{held_bytes, wrote}
+use Rattle.cs_indexing.specs.Views.{of_script, stop_ending}
+use Rattle.cs_indexing.proofs.SizedFiles.{held_size}
 use Rattle.cs_top.specs.Answering.{CameCounts}
-use Rattle.cs_top.specs.CommandLine.{failed}
 use Rattle.cs_top.specs.LiveAnswering.{LiveOver}
 use Rattle.cs_top.specs.LiveRuns.{IsToldCourse}
 use Rattle.cs_top.specs.LiveSteps.{IsToldCourseTo, LineText}
 use Rattle.cs_top.specs.LiveTexts.{IsLiveText}
-use Rattle.cs_top.specs.Met.{held_bytes, wrote}
 use Rattle.cs_top.specs.PutTexts.{CutsLineOf, EndsOf, PutsTextsOf}
 use Rattle.cs_top.specs.ScriptEndings.{EndsAt, ScriptEndsBy, ShortTally}
-use Rattle.cs_top.specs.Views.{of_script, stop_ending}
 use Rattle.cs_top.proofs.AnsweredLemmas.{HasAnswered, lines_at}
 use Rattle.cs_top.proofs.LiveScripts.{counts_none, live_ends_done, live_ends_here, live_goes_on, live_start, live_unread}
 use Rattle.cs_top.proofs.LiveTextsApart.{live_apart}
 use Rattle.cs_top.proofs.PutTextLemmas.{nothing_put_of, puts_cut_of, puts_more_of, puts_none_of}
 use Rattle.cs_top.proofs.TallyLemmas.{counts_more}
-use Rattle.cs_top.proofs.WindowLemmas.{held_size}
 use Rattle.cs_top.proofs.live.answer_lines.Goals as goal
 
 pub returns-in_err-at-clause-short : goal.returns-in_err-at-clause-short

@@ -2,12 +2,12 @@ use Rattle.std.proofs.Common.{◌≡◌, ◌≤◌, ◌-◌, List, ℕ}
 use Rattle.cs_model.specs.Outputs.{script_lines}
 use Rattle.cs_model_index.specs.Sections.{file_corpus}
 use Rattle.cs_model_live.specs.LiveStates.{LiveState, before_changes}
+use Rattle.cs_indexing.specs.Views.{OfFile}
 use Rattle.cs_top.specs.Answering.{CameCounts}
 use Rattle.cs_top.specs.LiveAnswering.{LiveOver, StaysIndex}
 use Rattle.cs_top.specs.LiveSteps.{IsToldCourseTo}
 use Rattle.cs_top.specs.LiveTexts.{IsLiveText}
 use Rattle.cs_top.specs.PutTexts.{PutsTextsOf}
-use Rattle.cs_top.specs.Views.{OfFile}
 use Rattle.cs_top.proofs.AnsweredLemmas.{HasAnswered, lines_at}
 use Rattle.cs_top.proofs.live.answer_lines.Given as goal
 

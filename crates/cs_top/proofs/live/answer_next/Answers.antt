@@ -1,10 +1,10 @@
 use Rattle.std.proofs.Common.{◌∙◌, ◌+◌, refl, rules, subst, sym}
+use Rattle.cs_indexing.specs.Met.{held_bytes, wrote}
+use Rattle.cs_indexing.specs.Views.{of_script, stop_ending}
 use Rattle.cs_top.specs.Answering.{CameCounts}
 use Rattle.cs_top.specs.LiveAnswering.{LiveOver, StaysIndex}
 use Rattle.cs_top.specs.LiveSteps.{LineText, LiveReaches}
-use Rattle.cs_top.specs.Met.{held_bytes, wrote}
 use Rattle.cs_top.specs.ScriptEndings.{EndsAt}
-use Rattle.cs_top.specs.Views.{of_script, stop_ending}
 use Rattle.cs_top.proofs.LinesAtPlaces.{ends_at, live_reaches}
 use Rattle.cs_top.proofs.live.answer_next.Goals as goal
 

@@ -4,16 +4,18 @@ use Rattle.cs_base.specs.outside.Outside.{Held}
 use Rattle.cs_model.specs.Outputs.{script_lines}
 use Rattle.cs_model_index.specs.Sections.{file_corpus}
 use Rattle.cs_model_live.specs.LiveStates.{before_changes}
-use Rattle.cs_top.specs.CommandLine.{Ending}
+use Rattle.cs_indexing.specs.CommandLine.{Ending}
+use Rattle.cs_indexing.specs.Met.{HasToldSize, Wrote, held_bytes, wrote}
+use Rattle.cs_indexing.proofs.SizedFiles.{held_by}
+use Rattle.cs_indexing.proofs.StopLemmas.{ended_early}
 use Rattle.cs_top.specs.LiveAnswering.{LiveOver}
 use Rattle.cs_top.specs.LiveRuns.{LiveEnds, LiveScript, LiveTold}
 use Rattle.cs_top.specs.LiveTexts.{IsLiveText}
-use Rattle.cs_top.specs.Met.{HasToldSize, Wrote, held_bytes, wrote}
 use Rattle.cs_top.specs.ScriptRuns.{CanBeOpened, ReplayCaused}
-use Rattle.cs_top.specs.Views.{script_ending}
+use Rattle.cs_top.specs.ScriptEndings.{script_ending}
 use Rattle.cs_top.proofs.LiveScripts.{live_ended}
-use Rattle.cs_top.proofs.ScriptLemmas.{held_by, index_caused}
-use Rattle.cs_top.proofs.StopLemmas.{ended_early, index_absent, index_damaged, index_ends, live_first, live_second, live_unopened}
+use Rattle.cs_top.proofs.ScriptLemmas.{index_caused}
+use Rattle.cs_top.proofs.ScriptStops.{index_absent, index_damaged, index_ends, live_first, live_second, live_unopened}
 use Rattle.cs_top.proofs.live.live_script.Given as given
 use Rattle.cs_top.proofs.live.live_script.Goals as goal
 use Rattle.cs_top.proofs.live.live_script.Goals.{After-answer_lines}

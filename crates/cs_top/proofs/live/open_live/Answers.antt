@@ -1,7 +1,7 @@
 use Rattle.std.proofs.Common.{◌∙◌, [], ap, refl, subst, sym}
 use Rattle.cs_base.specs.outside.Outside.{file_bytes}
 use Rattle.cs_file.specs.Indexes.{HasAllBlocks, StandsFor}
-use Rattle.cs_top.specs.Met.{held_bytes}
+use Rattle.cs_indexing.specs.Met.{held_bytes}
 use Rattle.cs_top.proofs.live.open_live.Goals as goal
 
 pub returns-clause-ok : goal.returns-clause-ok

@@ -6,16 +6,18 @@ use Rattle.cs_file.specs.Indexes.{StandsFor}
 use Rattle.cs_model.specs.Corpus.{Corpus}
 use Rattle.cs_model.specs.Outputs.{script_lines}
 use Rattle.cs_model_index.specs.Sections.{file_corpus}
+use Rattle.cs_indexing.specs.declared.words.HitForm.TheVariants.{Titled}
+use Rattle.cs_indexing.specs.CommandLine.{Ending}
+use Rattle.cs_indexing.specs.Met.{Wrote, held_bytes, wrote}
+use Rattle.cs_indexing.specs.Views.{of_script, stop_ending}
+use Rattle.cs_indexing.proofs.SizedFiles.{held_by}
 use Rattle.cs_top.specs.Answering.{AnswersOver, CameCounts}
-use Rattle.cs_top.specs.declared.words.HitForm.TheVariants.{Titled}
-use Rattle.cs_top.specs.CommandLine.{Ending}
 use Rattle.cs_top.specs.HitForms.{AtHand, form_by}
-use Rattle.cs_top.specs.Met.{Wrote, held_bytes, wrote}
 use Rattle.cs_top.specs.PutTexts.{EndsBy, IsOwnText, PutsTexts}
 use Rattle.cs_top.specs.ScriptRuns.{CanBeOpened, ReplayCaused, ReplayEnds, ReplayScript, ReplayTold}
-use Rattle.cs_top.specs.Views.{of_script, script_ending, stop_ending}
-use Rattle.cs_top.proofs.StopLemmas.{index_absent, index_damaged, index_ends}
-use Rattle.cs_top.proofs.ScriptLemmas.{held_by, index_caused, over_held, replay_ended}
+use Rattle.cs_top.specs.ScriptEndings.{script_ending}
+use Rattle.cs_top.proofs.ScriptStops.{index_absent, index_damaged, index_ends}
+use Rattle.cs_top.proofs.ScriptLemmas.{index_caused, over_held, replay_ended}
 use Rattle.cs_top.proofs.replay.replay.Given as given
 use Rattle.cs_top.proofs.replay.replay.Goals as goal
 use Rattle.cs_top.proofs.replay.replay.Goals.{After-answer_script}

@@ -1,8 +1,8 @@
 use Rattle.std.proofs.Common.{◌+◌, refl, rules, subst}
+use Rattle.cs_indexing.specs.Met.{held_bytes, wrote}
+use Rattle.cs_indexing.specs.Views.{of_script, stop_ending}
 use Rattle.cs_top.specs.Answering.{MayAnswer, StaysOver}
-use Rattle.cs_top.specs.Met.{held_bytes, wrote}
 use Rattle.cs_top.specs.ScriptEndings.{EndsAt, Reaches}
-use Rattle.cs_top.specs.Views.{of_script, stop_ending}
 use Rattle.cs_top.proofs.LinesAtPlaces.{ends_at, reaches_by}
 use Rattle.cs_top.proofs.OverLemmas.{came_at, over_at, over_behind, over_none}
 use Rattle.cs_top.proofs.script.answer_next.Goals as goal

@@ -5,17 +5,17 @@ use Rattle.std.specs.Str.Lines.{lines}
 use Rattle.std.specs.FinMap as map
 use Rattle.cs_model.specs.Outputs.{OneEach, script_lines}
 use Rattle.cs_model.specs.Words.{is_filled}
+use Rattle.cs_indexing.specs.CommandLine.{failed}
+use Rattle.cs_indexing.specs.Met.{held_bytes, wrote}
+use Rattle.cs_indexing.specs.Views.{of_script, stop_ending}
+use Rattle.cs_indexing.proofs.SizedFiles.{held_size}
 use Rattle.cs_top.specs.Answering.{CameOver, MayAnswer}
-use Rattle.cs_top.specs.CommandLine.{failed}
 use Rattle.cs_top.specs.HitForms.{form_by}
-use Rattle.cs_top.specs.Met.{held_bytes, wrote}
 use Rattle.cs_top.specs.PutTexts.{CutsLine, EndsBy, PutsTexts}
 use Rattle.cs_top.specs.ScriptEndings.{ScriptEnds, ShortTally, EndsAt, Reaches}
-use Rattle.cs_top.specs.Views.{of_script, stop_ending}
 use Rattle.cs_top.proofs.AnsweredLemmas.{HasAnswered, at_start, lines_at, unread, goes_on, ends_here, ends_done}
 use Rattle.cs_top.proofs.PutTextLemmas.{nothing_put, puts_cut, puts_more, puts_none}
 use Rattle.cs_top.proofs.OverLemmas.{came_more, came_none, over_more, over_none}
-use Rattle.cs_top.proofs.WindowLemmas.{held_size}
 use Rattle.cs_top.proofs.script.answer_script.Goals as goal
 
 pub returns-in_err-at-clause-short : goal.returns-in_err-at-clause-short

@@ -1,8 +1,8 @@
 use Rattle.std.proofs.Common.{◌≡◌, ◌≤◌, ◌-◌}
 use Rattle.cs_model.specs.Corpus.{Corpus}
 use Rattle.cs_model.specs.Outputs.{OneEach, script_lines}
+use Rattle.cs_indexing.specs.Views.{OfFile}
 use Rattle.cs_top.specs.Answering.{AnswersOver, CameOver, MayAnswer, StaysOver}
-use Rattle.cs_top.specs.Views.{OfFile}
 use Rattle.cs_top.specs.HitForms.{form_by}
 use Rattle.cs_top.specs.PutTexts.{PutsTexts}
 use Rattle.cs_top.proofs.AnsweredLemmas.{HasAnswered, lines_at}

@@ -4,7 +4,7 @@ use Rattle.cs_base.specs.outside.Causes.{Rose}
 use Rattle.cs_base.specs.outside.Outside.{Held}
 use Rattle.cs_hub.specs.HubFollowing.{AreServed}
 use Rattle.cs_model_index.specs.Sections.{file_corpus}
-use Rattle.cs_top.specs.Met.{Listened, Wrote, held_bytes, listened, wrote}
+use Rattle.cs_indexing.specs.Met.{Listened, Wrote, held_bytes, listened, wrote}
 use Rattle.cs_top.specs.Serve.{AreAnswered, IsServing}
 use Rattle.cs_top.proofs.ServeEndings.{serving_by}
 use Rattle.cs_top.proofs.serve.serve_index.Given as given

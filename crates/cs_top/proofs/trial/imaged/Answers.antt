@@ -1,4 +1,4 @@
-use Rattle.cs_top.proofs.TrialLemmas.{unrefused}
+use Rattle.cs_indexing.proofs.SourceLemmas.{unrefused}
 use Rattle.cs_top.proofs.trial.imaged.Goals as goal
 
 pub want_of-requires : goal.want_of-requires

@@ -11,8 +11,8 @@ use Rattle.cs_model_index.specs.Sections.{file_corpus}
 use Rattle.cs_model_trial.specs.Generator.{collection}
 use Rattle.cs_model_trial.specs.Sessions.{queries}
 use Rattle.cs_model_trial.specs.Summary.{trial_corpus}
-use Rattle.cs_top.specs.Filed.{IsFiled}
-use Rattle.cs_top.specs.Trial.{AddUp, AreFew, HasSizes, sizes_of}
+use Rattle.cs_indexing.specs.Filed.{IsFiled, HasSizes}
+use Rattle.cs_top.specs.Trial.{AddUp, AreFew, sizes_of}
 use Rattle.cs_trial.proofs.TrialCollections.{usual_weights}
 use Rattle.cs_top.proofs.TrialLemmas.{asked_none, asked_queries, few_requests, ok_then, summed, told_is}
 use Rattle.cs_top.proofs.trial.summary_of.Goals as goal

@@ -2,10 +2,10 @@ use Rattle.std.proofs.Common.{◌≢◌, ap, inl, refl, sym, subst}
 use Rattle.cs_base.specs.content.Bytes.{line_feed}
 use Rattle.cs_model_index.specs.Sections.{file_corpus, image_of}
 use Rattle.cs_model_live.specs.LiveLines.{added_outcome, deleted_outcome, line_outcome}
+use Rattle.cs_indexing.specs.Met.{wrote}
 use Rattle.cs_top.specs.Answering.{came_of_answer, line_bytes}
 use Rattle.cs_top.specs.LiveAnswering.{LiveOver}
 use Rattle.cs_top.specs.LiveTexts.{IsLiveText, told_bytes}
-use Rattle.cs_top.specs.Met.{wrote}
 use Rattle.cs_top.specs.OutcomeTexts.{IsAnswerBy}
 use Rattle.cs_top.specs.declared.script.WhatCame.TheVariants.{Answered}
 use Rattle.cs_top.proofs.AnswerLemmas.{some_bytes}

@@ -1,6 +1,6 @@
 use Rattle.std.proofs.Common.{sym}
+use Rattle.cs_indexing.specs.Met.{wrote}
 use Rattle.cs_top.specs.HitForms.{form_by}
-use Rattle.cs_top.specs.Met.{wrote}
 use Rattle.cs_top.specs.Answering.{CameOver, came_of_answer}
 use Rattle.cs_top.proofs.AnswerLemmas.{line_err, line_ok, said_came, some_bytes}
 use Rattle.cs_top.proofs.PutTextLemmas.{line_cuts, line_puts}

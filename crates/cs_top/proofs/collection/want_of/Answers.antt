@@ -1,5 +1,0 @@
-use Rattle.cs_top.proofs.TrialLemmas.{unsaid}
-use Rattle.cs_top.proofs.collection.want_of.Goals as goal
-
-pub unreachable-requires : goal.unreachable-requires
-unreachable-requires c = unsaid c.args.fault _ c.reason.result c.requires c.reason.ensures c.in-Some.is
